@@ -1,0 +1,4 @@
+pub mod Same
+pub mod Table
+pub mod Decimals
+pub mod Numbers
