@@ -1,0 +1,10 @@
+pub mod Ty
+pub mod Image
+pub mod Laid
+pub mod Kind
+pub mod Read
+pub mod Body
+pub mod Nesting
+pub mod Check
+pub mod Span
+pub mod Sizes
