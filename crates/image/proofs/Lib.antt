@@ -5,3 +5,13 @@ pub mod Checked
 pub mod Spans
 pub mod TypeRows
 pub mod Sizes
+pub mod Cursor
+pub mod Readers
+pub mod Coded
+pub mod Items
+pub mod Noting
+pub mod Instructions
+pub mod Blocks
+pub mod Nested
+pub mod Bodies
+pub mod Answers

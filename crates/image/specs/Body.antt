@@ -84,16 +84,14 @@ module _ (l : Limits) where
       followed (below (item-identifiers t) ws₁) (λ i ws₂.
       followed (below (item-keys t) ws₂) (λ k ws₃. got (record { tag = t; id = i; key = k }) ws₃)))
 
+  -- n items of some tags, then m of others
+  unfoldable pub runs : (first : List ℕ) (n : ℕ) (rest : List ℕ) (m : ℕ) → List ℕ → Read (List Item)
+  runs first n rest m ws = followed (many (item first) n ws) (λ is ws₁. followed (many (item rest) m ws₁) (λ js ws₂. got (is ++ js) ws₂))
+
   -- n items as the kind wants them, given the aux word
   unfoldable pub items-of : Items → ℕ → ℕ → List ℕ → Read (List Item)
-  items-of (places-then p tags) aux n ws =
-      elim (leb p n) [
-        | true ↦ followed (many (item (0 ∷ [])) p ws) (λ first ws₁. followed (many (item tags) (n - p) ws₁) (λ rest ws₂. got (first ++ rest) ws₂))
-        | false ↦ nothing
-      ]
-  items-of pattern aux zero ws = nothing
-  items-of pattern aux (suc n) ws =
-      followed (many (item (pattern-tags aux)) n ws) (λ elements ws₁. followed (item (0 ∷ []) ws₁) (λ value ws₂. got (elements ++ (value ∷ [])) ws₂))
+  items-of (places-then p tags) aux n ws = elim (leb p n) [ true ↦ runs (0 ∷ []) p tags (n - p) ws | false ↦ nothing ]
+  items-of pattern aux n ws = elim (leb 1 n) [ true ↦ runs (pattern-tags aux) (n - 1) (0 ∷ []) 1 ws | false ↦ nothing ]
 
   -- whether a word is an aux word of this sort
   unfoldable pub aux-fits : Aux → ℕ → Bool
@@ -180,5 +178,5 @@ nested i = nested-by (i .form .aux) (i .aux)
 
 -- To unfold this one is to unfold every definition of this file: the rows compute by it.
 unfoldable pub body-compute : Unit {0}
-unfolding one-of pattern-tags identifier item-identifiers item-keys item items-of aux-fits instruction-of instruction phi-node terminal-of terminal block param body whole body-at bodies-from bodies kind-of nested-by nested
+unfolding one-of pattern-tags identifier item-identifiers item-keys item runs items-of aux-fits instruction-of instruction phi-node terminal-of terminal block param body whole body-at bodies-from bodies kind-of nested-by nested
 body-compute = tt

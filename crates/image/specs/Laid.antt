@@ -29,3 +29,9 @@ pub record Names-inside (img bytes : List ℕ) : Type 0 where
 pub record Bodies-inside (img : List ℕ) : Type 0 where
   pub laid : Laid img
   pub body : (f : ℕ) → f < count Functions img → cell Functions img f 0 + cell Functions img f 1 ≤ length img
+
+-- an image and name bytes of allowed lengths (refusals 1 and 2)
+pub record Sized-inputs (img bytes : List ℕ) : Type 0 where
+  pub long : 20 ≤ length img
+  pub short : length img ≤ 65536
+  pub few : length bytes ≤ 65536

@@ -6,5 +6,10 @@ pub mod Read
 pub mod Body
 pub mod Nesting
 pub mod Check
+pub mod Program
 pub mod Span
 pub mod Sizes
+pub mod Coded
+pub mod Cursor
+pub mod Marks
+pub mod Answer

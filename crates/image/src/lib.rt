@@ -5,8 +5,13 @@ ghost use lib.ListN.{length};
 ghost use Rattle.image.specs.Image.{word, width, header-place, count as count-of, offset as offset-of, cell as cell-of, limits as limits-of};
 ghost use Rattle.image.specs.Laid.{Laid, In-table};
 
+mod body;
 mod header;
+mod instruction;
+mod marks;
+mod nesting;
 mod overlap;
+mod read;
 mod types;
 
 pub const NONE: u32 = 4294967295;
@@ -107,4 +112,20 @@ pub fn limits_of(img: &[u32]) -> Limits
         types: count(img, Table::Types),
         functions: count(img, Table::Functions),
     }
+}
+
+// The slot of an identifier.
+pub fn slot_of(img: &[u32], id: IdentifierId) -> TypeId
+    requires { ⌜ In-table Table.Identifiers (now img) (id .0) 0 ⌝ }
+    ensures { λ r. ⌜ r .0 ≡ cell-of Table.Identifiers (now (img .entry)) (id .0) 0 ⌝ }
+{
+    TypeId(cell(img, Table::Identifiers, id.0, 0))
+}
+
+// The name of an identifier, or NONE.
+pub fn name_of(img: &[u32], id: IdentifierId) -> u32
+    requires { ⌜ In-table Table.Identifiers (now img) (id .0) 1 ⌝ }
+    ensures { λ r. ⌜ r ≡ cell-of Table.Identifiers (now (img .entry)) (id .0) 1 ⌝ }
+{
+    cell(img, Table::Identifiers, id.0, 1)
 }

@@ -1,0 +1,1 @@
+// The unifier. Its definition is in specs/, and laws of the definition in proofs/.
