@@ -9,6 +9,9 @@ pub mod Check
 pub mod Program
 pub mod Span
 pub mod Sizes
+pub mod Numbering
+pub mod Blocks
+pub mod Shapes
 pub mod Coded
 pub mod Cursor
 pub mod Marks

@@ -2,17 +2,25 @@
 ghost use mathlib.Core.Path.{_≡_};
 ghost use Prim.Native.Nat.{_+_, _≤_, _<_};
 ghost use lib.ListN.{length};
-ghost use Rattle.image.specs.Image.{word, width, header-place, count as count-of, offset as offset-of, cell as cell-of, limits as limits-of};
-ghost use Rattle.image.specs.Laid.{Laid, In-table};
+ghost use Rattle.image.specs.Image.{word, width, header-place, count as count-of, offset as offset-of, cell as cell-of, limits as limits-of, name-at};
+ghost use Rattle.image.specs.Laid.{Laid, In-table, Names-inside};
 
+mod blocks;
 mod body;
 mod header;
 mod instruction;
 mod marks;
 mod nesting;
+mod numbering;
 mod overlap;
+mod reach;
 mod read;
+mod refusals;
+mod shapes;
 mod types;
+
+pub use refusals::check;
+pub use refusals::image_check;
 
 pub const NONE: u32 = 4294967295;
 
@@ -128,4 +136,14 @@ pub fn name_of(img: &[u32], id: IdentifierId) -> u32
     ensures { λ r. ⌜ r ≡ cell-of Table.Identifiers (now (img .entry)) (id .0) 1 ⌝ }
 {
     cell(img, Table::Identifiers, id.0, 1)
+}
+
+// The bytes of a name.
+pub fn name_bytes<'a>(img: &[u32], bytes: &'a [u8], n: u32) -> &'a [u8]
+    requires { ⌜ Names-inside (now img) (now bytes) × (n < count-of Table.Names (now img)) ⌝ }
+    ensures { λ r. ⌜ now r ≡ name-at (now (img .entry)) (now (bytes .entry)) n ⌝ }
+{
+    let start = cell(img, Table::Names, n, 0) as usize;
+    let end = start + cell(img, Table::Names, n, 1) as usize;
+    &bytes[start..end]
 }

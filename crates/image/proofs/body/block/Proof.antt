@@ -1,7 +1,7 @@
 use Rattle.image.specs.Marks.{unread}
 use Rattle.image.proofs.Cursor.{ends-broken, ends-at}
 use Rattle.image.proofs.Noting.{notes-broken, notes-at}
-use Rattle.image.proofs.Blocks.{block-none, block-phis-out, block-instructions-none, block-instructions-out, block-in}
+use Rattle.image.proofs.BlockReaders.{block-none, block-phis-out, block-instructions-none, block-instructions-out, block-in}
 use native.Mathlib.Omega.{arith}
 use borrow.Author.Needs.{needs}
 use Rattle.image.proofs.body.block.Statement.{statement}

@@ -3,7 +3,7 @@ use mathlib.Core.Path.{refl}
 use Rattle.image.specs.Body.{block}
 use Rattle.image.specs.Nesting.{named-by-blocks}
 use Rattle.image.specs.Marks.{unread}
-use Rattle.image.proofs.Blocks.{blocks-row}
+use Rattle.image.proofs.BlockReaders.{blocks-row}
 use Rattle.image.proofs.Cursor.{reading-fails}
 use Rattle.image.proofs.Noting.{notes-broken, notes-at, Noted-many, noted-start, noted-turn, noted-end}
 use borrow.Author.Needs.{needs}

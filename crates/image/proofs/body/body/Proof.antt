@@ -1,6 +1,6 @@
 use Rattle.image.specs.Marks.{unread}
 use Rattle.image.proofs.Cursor.{ends-broken, ends-at}
-use Rattle.image.proofs.Blocks.{body-short, body-type-out, body-returns-out, body-params-out, body-context-out, body-blocks-none, body-in}
+use Rattle.image.proofs.BlockReaders.{body-short, body-type-out, body-returns-out, body-params-out, body-context-out, body-blocks-none, body-in}
 use native.Mathlib.Omega.{arith}
 use borrow.Author.Needs.{needs}
 use Rattle.image.proofs.body.body.Statement.{statement}
