@@ -91,7 +91,7 @@ pub fn count(img: &[u32], t: Table) -> u32
 }
 
 // The word at which a table starts.
-pub fn offset(img: &[u32], t: Table) -> u32
+fn offset(img: &[u32], t: Table) -> u32
     requires { ⌜ 20 ≤ length (now img) ⌝ }
     ensures { λ r. ⌜ r ≡ offset-of t (now (img .entry)) ⌝ }
 {
@@ -110,7 +110,7 @@ pub fn cell(img: &[u32], t: Table, n: u32, k: usize) -> u32
 }
 
 // The counts that bound the numbers in a body.
-pub fn limits_of(img: &[u32]) -> Limits
+fn limits_of(img: &[u32]) -> Limits
     requires { ⌜ 20 ≤ length (now img) ⌝ }
     ensures { λ r. ⌜ r ≡ limits-of (now (img .entry)) ⌝ }
 {

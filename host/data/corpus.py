@@ -1,0 +1,190 @@
+"""Inputs with the answers of the reference model, in the format that src/corpus.rs describes.
+
+    python3 host/data/corpus.py REFERENCE make              writes the corpus beside this file
+    python3 host/data/corpus.py REFERENCE compare FILE..    holds the answers of files to the model's
+
+REFERENCE is the folder of the reference model (model.py, generate.py).
+"""
+
+import os
+import random
+import struct
+import sys
+from collections import Counter
+
+NONE = 0xFFFFFFFF
+LIMIT = 65_536
+
+
+def number(value):
+    digits = bytearray()
+    while value > 127:
+        digits.append(value & 127 | 128)
+        value >>= 7
+    digits.append(value)
+    return bytes(digits)
+
+
+def word(value):
+    return number((value + 1) & NONE)
+
+
+class Writer:
+    """Collects records; counts the answers."""
+
+    def __init__(self, check):
+        self.check, self.out, self.answers = check, bytearray(), Counter()
+        self.words, self.names = [], b""          # of the last record 0
+
+    def finish(self, words, names, budget, work):
+        answer = self.check(words, names, budget, work)
+        self.answers[answer] += 1
+        self.out += number(budget) + number(work) + number(answer)
+
+    def whole(self, words, names, budget, work):
+        self.words, self.names = list(words), bytes(names)
+        self.out += number(0) + number(len(words)) + b"".join(map(word, words))
+        self.out += number(len(names)) + names
+        self.finish(words, names, budget, work)
+
+    def changed(self, words, name_count, budget, work):
+        old = resized(self.words, len(words), [0])
+        changes = [(at, new) for at, new in enumerate(words) if new != old[at]]
+        self.out += number(1) + number(len(words)) + number(len(changes))
+        for at, new in changes:
+            self.out += number(at) + word(new)
+        self.out += number(name_count)
+        self.finish(words, resized(self.names, name_count, b"\0"), budget, work)
+
+
+def resized(items, count, filler):
+    return items[:count] + filler * (count - len(items))
+
+
+def read(data):
+    """(words, names, budget, work, answer) of each record."""
+    at, words, names = 0, [], b""
+
+    def take():
+        nonlocal at
+        value = shift = 0
+        while True:
+            value |= (data[at] & 127) << shift
+            shift += 7
+            at += 1
+            if data[at - 1] < 128:
+                return value
+
+    while at < len(data):
+        if take() == 0:
+            words = [(take() - 1) & NONE for _ in range(take())]
+            count = take()
+            names = bytes(data[at:at + count])
+            at += count
+            now_words, now_names = words, names
+        else:
+            now_words = resized(words, take(), [0])
+            for _ in range(take()):
+                position = take()
+                now_words[position] = (take() - 1) & NONE
+            now_names = resized(names, take(), b"\0")
+        yield now_words, now_names, take(), take(), take()
+
+
+def enough(words, budget):
+    return 8 * (len(words) + budget)
+
+
+def lengths(rng, writer):
+    """A record at the edge of one of the refusals 1 to 4."""
+    words, count, budget = writer.words, len(writer.names), 1_024
+    which = rng.randrange(6)
+    if which == 0:
+        words = resized(words, rng.choice((0, 1, 19, 20, len(words) - 1, len(words) + 1)), [0])
+    elif which == 1:
+        words = resized(words, rng.choice((LIMIT, LIMIT + 1)), [0])
+        words[19] = len(words)
+    elif which == 2:
+        count = rng.choice((0, max(0, count - 1), LIMIT, LIMIT + 1))
+    elif which == 3:
+        budget = rng.choice((0, LIMIT, LIMIT + 1, NONE))
+    work = enough(words, budget) - (which == 4) + rng.choice((0, 0, 1, 1_000_000)) * (which > 4)
+    writer.changed(words, count, budget, work)
+
+
+def damage(rng, writer, generate):
+    """A record with words changed by the reference's own damager."""
+    damager = generate.Damager(rng, writer.words, writer.names)
+    while damager.words == writer.words:
+        aim = rng.choice((5, 6, 7, 8, 8, 9, 9, 10, 10, 10, 0))
+        if aim:
+            getattr(damager, "aim_%d" % aim)()
+        for _ in range(rng.choice((0, 0, 0, 1)) if aim else rng.randint(1, 3)):
+            damager.anywhere()
+    budget = rng.choice((0, 1_024, LIMIT))
+    writer.changed(damager.words, len(writer.names), budget, enough(damager.words, budget))
+
+
+def images(rng, writer, generate, sizes, changes):
+    for most in sizes:
+        words, names, budget = generate.valid(rng, most)
+        writer.whole(words, names, budget, enough(words, budget))
+        for _ in range(changes):
+            (lengths if rng.random() < 0.1 else lambda r, w: damage(r, w, generate))(rng, writer)
+
+
+def edges(rng, writer, generate, count):
+    for _ in range(count):
+        data = generate.edge(rng, rng.choice((200, 400, 2_000)))
+        word_count, name_count, budget = struct.unpack("<3I", data[:12])
+        words = list(struct.unpack_from("<%dI" % word_count, data, 12))
+        names = data[12 + 4 * word_count:]
+        assert len(names) == name_count
+        writer.whole(words, names, budget, enough(words, budget))
+
+
+def make(model, generate):
+    here = os.path.dirname(os.path.abspath(__file__))
+    parts = {
+        "small": lambda rng, w: images(rng, w, generate, [rng.choice((150, 250, 400, 600))
+                                                          for _ in range(1_200)], 9),
+        "large": lambda rng, w: images(rng, w, generate, [1_000, 2_000, 4_000, 8_000, 16_000,
+                                                          32_000, 65_536] * 2, 30),
+        "edges": lambda rng, w: edges(rng, w, generate, 400),
+    }
+    for name, part in parts.items():
+        writer = Writer(model.check)
+        part(random.Random(name), writer)
+        with open(os.path.join(here, name + ".corpus"), "wb") as file:
+            file.write(writer.out)
+        print(name, len(writer.out), "bytes", sorted(writer.answers.items()))
+
+
+def compare(model, files):
+    for path in files:
+        answers = Counter()
+        with open(path, "rb") as file:
+            for at, (words, names, budget, work, answer) in enumerate(read(file.read())):
+                right = model.check(words, names, budget, work)
+                if answer != right:
+                    sys.exit("%s, record %d: answer %d, the model's is %d" % (path, at, answer, right))
+                answers[answer] += 1
+                if at % 10_000 == 9_999:
+                    print(path, at + 1, "records so far", flush=True)
+        print(path, sum(answers.values()), "agree", sorted(answers.items()))
+
+
+def main():
+    if len(sys.argv) < 3 or sys.argv[2] not in ("make", "compare"):
+        sys.exit(__doc__)
+    sys.path.insert(0, sys.argv[1])
+    import generate
+    import model
+    if sys.argv[2] == "make":
+        make(model, generate)
+    else:
+        compare(model, sys.argv[3:])
+
+
+if __name__ == "__main__":
+    main()

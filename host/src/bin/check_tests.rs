@@ -1,0 +1,251 @@
+//! Tests of the proved image check: inputs through the archive, answers against those expected.
+//!
+//!     check_tests FILE..                 every test, the corpus being these files
+//!     check_tests --only FILE..          the corpus alone
+//!     check_tests --write FILE COUNT     writes the inputs, so many of them generated, with the answers expected
+
+use host::image::{Case, Input};
+use host::lent::{Memory, Side};
+use host::random::Random;
+use host::{corpus, damage, edges, generate, hostile, plain};
+use std::slice;
+use std::sync::atomic::{AtomicPtr, Ordering};
+use std::time::Duration;
+
+#[link(name = "image", kind = "static")]
+extern "C" {
+    fn image_check(
+        image: *const u32,
+        image_len: usize,
+        names: *const u8,
+        names_len: usize,
+        budget: u32,
+        work: usize,
+    ) -> u32;
+}
+
+extern "C" {
+    fn signal(number: i32, handler: extern "C" fn(i32)) -> usize;
+    fn alarm(seconds: u32) -> u32;
+    fn clock() -> i64;
+}
+
+/// SIGILL, SIGBUS, SIGFPE, SIGSEGV, SIGALRM.
+const FAULTS: [i32; 5] = [4, 7, 8, 11, 14];
+
+/// A hostile image may take the processor so long.
+const MOST_TIME: Duration = Duration::from_secs(1);
+/// No check is waited for longer than so many seconds.
+const MOST_SECONDS: u32 = 60;
+
+const GENERATED: u32 = 200_000;
+const DIFFERENCE: &str = "difference.corpus"; // beside the program
+
+/// The case that is being checked, for the message of a fault.
+static CURRENT: AtomicPtr<Case> = AtomicPtr::new(std::ptr::null_mut());
+
+extern "C" fn on_fault(number: i32) {
+    // SAFETY: set from a case that lives while it is checked.
+    if let Some(case) = unsafe { CURRENT.load(Ordering::Relaxed).as_ref() } {
+        fail(&format!("signal {number} during the check"), case);
+    }
+    std::process::exit(2);
+}
+
+/// Prints the case, leaves it in a file and ends the program.
+fn fail(what: &str, case: &Case) -> ! {
+    let Input { image, names, budget, work } = &case.input;
+    println!("FAILED: {}: {what}, expected {}", case.name, case.expected);
+    println!("{} words, {} name bytes, budget {budget}, work {work}", image.len(), names.len());
+    if image.len() <= 2_000 {
+        println!("image {image:?}\nnames {names:?}");
+    }
+    let mut file = vec![];
+    corpus::write(&mut file, case);
+    let path = std::env::current_exe().unwrap_or_default().with_file_name(DIFFERENCE);
+    match std::fs::write(&path, file) {
+        Ok(()) => println!("to run it alone: check_tests --only {}", path.display()),
+        Err(error) => println!("{} can't be written: {error}", path.display()),
+    }
+    std::process::exit(1);
+}
+
+fn processor_time() -> Duration {
+    // SAFETY: gives a number of microseconds.
+    Duration::from_micros(unsafe { clock() } as u64)
+}
+
+struct Tests {
+    words: Memory,
+    bytes: Memory,
+    counts: [u64; 11],
+    total: [u64; 11],
+}
+
+impl Tests {
+    /// The archive's answer with the input at one side of its memory, and the time that it took.
+    fn ask(&mut self, case: &Case, side: Side, fill: u8) -> (u32, Duration) {
+        let Input { image, names, budget, work } = &case.input;
+        let (image_at, names_at) = (self.words.lend(image, side, fill), self.bytes.lend(names, side, fill));
+        let start = processor_time();
+        // SAFETY: so many words and bytes stand there, and nothing changes them meanwhile.
+        let answer = unsafe { image_check(image_at, image.len(), names_at, names.len(), *budget, *work) };
+        let time = processor_time() - start;
+        // SAFETY: as above.
+        let lent = unsafe {
+            (slice::from_raw_parts(image_at, image.len()), slice::from_raw_parts(names_at, names.len()))
+        };
+        if lent != (image, names) {
+            fail("the lent image or names were changed", case);
+        }
+        (answer, time)
+    }
+
+    /// Compares the answers at both sides of the memory with the expected one; gives the longer time.
+    fn compare(&mut self, case: &Case) -> Duration {
+        CURRENT.store(case as *const Case as *mut Case, Ordering::Relaxed);
+        let mut longest = Duration::ZERO;
+        for (side, fill) in [(Side::End, 0), (Side::Start, 0xFF)] {
+            // SAFETY: asks for a signal, which is handled.
+            unsafe { alarm(MOST_SECONDS) };
+            let (answer, time) = self.ask(case, side, fill);
+            if answer != case.expected {
+                fail(&format!("answer {answer} at the {side:?}"), case);
+            }
+            longest = longest.max(time);
+        }
+        self.counts[case.expected as usize] += 1;
+        longest
+    }
+
+    /// Prints how often each number was answered in a part.
+    fn part(&mut self, name: &str) {
+        println!("{name:<28}{}", row(&self.counts));
+        for (total, count) in self.total.iter_mut().zip(&mut self.counts) {
+            *total += std::mem::take(count);
+        }
+    }
+}
+
+fn row(counts: &[u64]) -> String {
+    counts.iter().map(|count| format!("{count:>8}")).collect()
+}
+
+/// A case that expects the plain check's answer.
+fn by_plain_check(name: impl Into<String>, input: Input) -> Case {
+    let expected = plain::check(&input.image, &input.names, input.budget, input.work);
+    Case { name: name.into(), input, expected }
+}
+
+/// The words that a generated image has, or so.
+fn size(random: &mut Random) -> u32 {
+    match random.below(1_000) {
+        0..=699 => random.range(60, 300),
+        700..=949 => random.range(300, 1_500),
+        950..=989 => random.range(1_500, 6_000),
+        990..=998 => random.range(6_000, 20_000),
+        _ => random.range(20_000, 64_000),
+    }
+}
+
+/// So many valid and damaged inputs.
+fn generated(count: u32, mut each: impl FnMut(Case)) {
+    let mut random = Random::new(1);
+    for number in (0..count).step_by(6) {
+        let words = size(&mut random);
+        let valid = generate::valid(&mut random, words);
+        for change in 1..6.min(count - number) {
+            let damaged = damage::damaged(&mut random, &valid);
+            each(by_plain_check(format!("generated {number}, change {change}"), damaged));
+        }
+        let case = by_plain_check(format!("generated {number}"), valid.input);
+        if case.expected != 0 {
+            fail("the plain check refuses a valid image", &case);
+        }
+        each(case);
+    }
+}
+
+fn words_replaced(each: impl FnMut(Case)) {
+    edges::words_replaced().into_iter().map(|input| by_plain_check("a word replaced", input)).for_each(each);
+}
+
+fn instructions(each: impl FnMut(Case)) {
+    edges::instructions().into_iter().map(|input| by_plain_check("one instruction", input)).for_each(each);
+}
+
+fn run_corpus(tests: &mut Tests, files: &[String]) {
+    for path in files {
+        let file = std::fs::read(path).unwrap_or_else(|error| panic!("{path}: {error}"));
+        for case in corpus::read(path, &file) {
+            tests.compare(&case);
+        }
+    }
+    tests.part("corpus");
+}
+
+fn run_edges(tests: &mut Tests) {
+    for case in edges::edges() {
+        if by_plain_check("", case.input.clone()).expected != case.expected {
+            fail("the plain check differs", &case);
+        }
+        tests.compare(&case);
+    }
+    tests.part("edges");
+}
+
+fn run_hostile(tests: &mut Tests) {
+    for case in hostile::hostile() {
+        let time = tests.compare(&case);
+        println!("  {:>8.1} ms  {:>2}  {}", time.as_secs_f64() * 1_000.0, case.expected, case.name);
+        if time > MOST_TIME {
+            fail("over a second", &case);
+        }
+    }
+    tests.part("hostile");
+}
+
+fn run_all(tests: &mut Tests, files: &[String]) {
+    println!("{:<28}{}", "answer", row(&std::array::from_fn::<u64, 11, _>(|number| number as u64)));
+    run_corpus(tests, files);
+    run_edges(tests);
+    words_replaced(|case| _ = tests.compare(&case));
+    tests.part("words replaced");
+    instructions(|case| _ = tests.compare(&case));
+    tests.part("instructions");
+    generated(GENERATED, |case| _ = tests.compare(&case));
+    tests.part("generated");
+    run_hostile(tests);
+    println!("{:<28}{}", "all", row(&tests.total));
+    if let Some(number) = tests.total.iter().position(|&count| count == 0) {
+        println!("FAILED: no input with answer {number}");
+        std::process::exit(1);
+    }
+    println!("check_tests: all passed");
+}
+
+/// Writes the inputs whose answers come from the plain check, with these, for another judge.
+fn write(path: &str, count: u32) {
+    let mut file = vec![];
+    let mut push = |case: Case| corpus::write(&mut file, &case);
+    words_replaced(&mut push);
+    instructions(&mut push);
+    generated(count, &mut push);
+    edges::edges().into_iter().chain(hostile::hostile()).for_each(&mut push);
+    std::fs::write(path, file).unwrap_or_else(|error| panic!("{path}: {error}"));
+}
+
+fn main() {
+    let arguments: Vec<String> = std::env::args().skip(1).collect();
+    let (words, bytes) = (Memory::new(4 * 65_537), Memory::new(65_537));
+    let mut tests = Tests { words, bytes, counts: [0; 11], total: [0; 11] };
+    for number in FAULTS {
+        // SAFETY: the handler only reports and exits.
+        unsafe { signal(number, on_fault) };
+    }
+    match arguments.iter().map(String::as_str).collect::<Vec<_>>()[..] {
+        ["--write", path, count] => write(path, count.parse().expect("a count")),
+        ["--only", ..] => run_corpus(&mut tests, &arguments[1..]),
+        _ => run_all(&mut tests, &arguments),
+    }
+}

@@ -1,0 +1,90 @@
+//! Files of inputs with their answers.
+//!
+//! A file is a list of records. A record is either
+//!   0, word count, words, name count, name bytes; or
+//!   1, word count, change count, changes (position, word), name count:
+//!      the image and names of the last record 0, cut or extended by zeros to these counts, then changed;
+//! and then budget, work words, answer. Numbers are written in base 128, lowest digit first, with 128 added
+//! to all digits but the last; an image word is written as the word plus 1, NONE as 0.
+
+use crate::image::{Case, Input};
+
+struct Reader<'a> {
+    bytes: std::slice::Iter<'a, u8>,
+}
+
+impl Reader<'_> {
+    fn number(&mut self) -> u64 {
+        let mut number = 0;
+        for shift in (0..).step_by(7) {
+            let digit = *self.bytes.next().expect("a whole record");
+            number |= (digit as u64 & 127) << shift;
+            if digit < 128 {
+                break;
+            }
+        }
+        number
+    }
+
+    fn count(&mut self) -> usize {
+        self.number() as usize
+    }
+
+    fn word(&mut self) -> u32 {
+        (self.number() as u32).wrapping_sub(1)
+    }
+}
+
+/// The cases of a file, named by it and their number.
+pub fn read(name: &str, file: &[u8]) -> Vec<Case> {
+    let mut reader = Reader { bytes: file.iter() };
+    let (mut words, mut bytes) = (vec![], vec![]);
+    let mut cases = vec![];
+    while !reader.bytes.as_slice().is_empty() {
+        let (mut image, mut names);
+        if reader.number() == 0 {
+            words = (0..reader.count()).map(|_| reader.word()).collect::<Vec<u32>>();
+            bytes = (0..reader.count()).map(|_| *reader.bytes.next().expect("a whole record")).collect();
+            (image, names) = (words.clone(), bytes.clone());
+        } else {
+            (image, names) = (words.clone(), bytes.clone());
+            image.resize(reader.count(), 0);
+            for _ in 0..reader.count() {
+                let at = reader.count();
+                image[at] = reader.word();
+            }
+            names.resize(reader.count(), 0);
+        }
+        let (budget, work) = (reader.number() as u32, reader.count());
+        let name = format!("{name}, record {}", cases.len());
+        cases.push(Case {
+            name,
+            input: Input { image, names, budget, work },
+            expected: reader.number() as u32,
+        });
+    }
+    cases
+}
+
+fn push(out: &mut Vec<u8>, mut number: u64) {
+    while number > 127 {
+        out.push(number as u8 | 128);
+        number >>= 7;
+    }
+    out.push(number as u8);
+}
+
+/// Adds a case as a record 0.
+pub fn write(out: &mut Vec<u8>, case: &Case) {
+    let Input { image, names, budget, work } = &case.input;
+    push(out, 0);
+    push(out, image.len() as u64);
+    for word in image {
+        push(out, word.wrapping_add(1) as u64);
+    }
+    push(out, names.len() as u64);
+    out.extend(names);
+    for number in [*budget as u64, *work as u64, case.expected as u64] {
+        push(out, number);
+    }
+}

@@ -1,0 +1,78 @@
+//! Memory to lend: read-only where it is lent, between pages that can't be touched.
+
+use std::ffi::{c_char, c_void};
+use std::ptr;
+
+const PAGE: usize = 4_096;
+const PROT_NONE: i32 = 0;
+const PROT_READ: i32 = 1;
+const PROT_WRITE: i32 = 2;
+const MAP_SHARED: i32 = 0x01;
+const MAP_PRIVATE: i32 = 0x02;
+const MAP_FIXED: i32 = 0x10;
+const MAP_ANONYMOUS: i32 = 0x20;
+
+extern "C" {
+    fn memfd_create(name: *const c_char, flags: u32) -> i32;
+    fn ftruncate(file: i32, length: i64) -> i32;
+    fn mmap(
+        place: *mut c_void,
+        length: usize,
+        protection: i32,
+        flags: i32,
+        file: i32,
+        from: i64,
+    ) -> *mut c_void;
+}
+
+/// Where the lent words or bytes stand in the memory.
+#[derive(Clone, Copy, Debug)]
+pub enum Side {
+    Start,
+    End,
+}
+
+/// The same pages twice: to write to, and to lend.
+pub struct Memory {
+    writable: *mut u8,
+    lent: *const u8,
+    length: usize,
+}
+
+impl Memory {
+    /// At least so many bytes.
+    pub fn new(bytes: usize) -> Memory {
+        let length = bytes.div_ceil(PAGE) * PAGE;
+        // SAFETY: new pages, which nothing else knows; those before and after the lent ones stay closed.
+        unsafe {
+            let file = memfd_create(c"lent".as_ptr(), 0);
+            assert!(file >= 0 && ftruncate(file, length as i64) == 0, "no memory");
+            let map = |place: *mut u8, length, protection, flags, file| {
+                let mapped = mmap(place as *mut c_void, length, protection, flags, file, 0);
+                assert_ne!(mapped as isize, -1, "no memory");
+                mapped as *mut u8
+            };
+            let writable = map(ptr::null_mut(), length, PROT_READ | PROT_WRITE, MAP_SHARED, file);
+            let closed = map(ptr::null_mut(), length + 2 * PAGE, PROT_NONE, MAP_PRIVATE | MAP_ANONYMOUS, -1);
+            let lent = map(closed.add(PAGE), length, PROT_READ, MAP_SHARED | MAP_FIXED, file);
+            Memory { writable, lent, length }
+        }
+    }
+
+    /// Puts the data at one side of the memory and the fill beside it; gives where to read the data.
+    pub fn lend<T: Copy>(&mut self, data: &[T], side: Side, fill: u8) -> *const T {
+        let bytes = std::mem::size_of_val(data);
+        assert!(bytes <= self.length, "too long to lend");
+        let near = (self.length - bytes).min(PAGE);
+        let (at, beside) = match side {
+            Side::Start => (0, bytes),
+            Side::End => (self.length - bytes, self.length - bytes - near),
+        };
+        // SAFETY: both ranges lie in the pages, and both sides are aligned for T.
+        unsafe {
+            ptr::write_bytes(self.writable.add(beside), fill, near);
+            ptr::copy_nonoverlapping(data.as_ptr(), self.writable.add(at) as *mut T, data.len());
+            self.lent.add(at) as *const T
+        }
+    }
+}

@@ -1,0 +1,11 @@
+//! What the tests of the proved libraries share.
+
+pub mod corpus;
+pub mod damage;
+pub mod edges;
+pub mod generate;
+pub mod hostile;
+pub mod image;
+pub mod lent;
+pub mod plain;
+pub mod random;
