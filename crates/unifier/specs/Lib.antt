@@ -6,3 +6,7 @@ pub mod Outcome
 pub mod Property
 pub mod Resolve
 pub mod Unify
+pub mod Work
+pub mod Walks
+pub mod Promises
+pub mod Choices

@@ -1,0 +1,15 @@
+use Rattle.unifier.proofs.Equalities.{stands-left, stands-right, stands-swap, unites-left, unites-right, unites-none}
+use Rattle.unifier.proofs.node.try_union_types.Statement.{statement}
+use Rattle.unifier.proofs.node.try_union_types.Tie as tie
+
+pub try-union-types-spec : {M : Type 1} → statement M
+try-union-types-spec =
+    tie.close
+    (tie.spec
+    (λ c κs. stands-left (c .before .pre))
+    (λ c κs. c .before .before .before .pre)
+    (λ c. unites-left (rw (c .before .if1 .taken) at (c .before .before .is-object-of .ensures)) (c .union-with .ensures))
+    (λ c κs. stands-right (c .before .before .before .pre))
+    (λ c κs. stands-swap (c .before .before .before .before .before .pre))
+    (λ c. unites-right (rw (c .before .before .before .if1 .left) at (c .before .before .before .before .is-object-of .ensures)) (rw (c .before .if2 .taken) at (c .before .before .is-object-of2 .ensures)) (c .union-with2 .ensures))
+    (λ c. unites-none (rw (c .before .before .if1 .left) at (c .before .before .before .is-object-of .ensures)) (rw (c .if2 .left) at (c .before .is-object-of2 .ensures))))
