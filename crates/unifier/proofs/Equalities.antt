@@ -1,43 +1,32 @@
 -- `type_equals` and `try_union_types` over nodes: what the kinds of two nodes say of their types. Assumes nothing.
-use mathlib.Core.Path.{_≡_, refl, sym, ap, _∙_, subst}
-use mathlib.Core.Bool.{Bool, true, false, _||_}
-use mathlib.Core.List.{List}
-use mathlib.Core.Option.{Option, none, some}
+use mathlib.Core.Path.{_≡_, refl, sym, ap, _∙_}
+use mathlib.Core.Bool.{Bool, true, false}
+use mathlib.Core.List.{List, [], _∷_}
+use mathlib.Core.Option.{none}
 use Prim.Native.Nat.{ℕ, _+_, _≤_, _<_}
 use native.Mathlib.Omega.{arith}
 use lib.Dec.{eqb}
 use lib.ListN.{length}
 use borrow.Author.Tests.{eqb-true, eqb-false, eq-eqb, ne-eqb}
-use Rattle.image.specs.Ty.{ARRAY, MIXED-READONLY, Ty, var, prim, poly, method, object, func, phi, function-kind}
+use denote.Enum.Declared.{tagOf}
+use types.Run.{OneOf, miss}
+use Rattle.image.specs.Ty.{Ty, var, prim, poly, method, object, func, phi}
 use Rattle.unifier.specs.Cases.{type-kind, is-primitive, is-poly, is-object-method, as-var, as-object, as-function}
 use Rattle.unifier.specs.Equal.{equals-some, type-equals, has-shape, union-with, try-union-types}
 use Rattle.unifier.specs.Work.{at, Leaf, leaf-prim, leaf-poly, leaf-method, leaf-object, Rep, rep-var, rep-leaf, rep-func, rep-phi}
-use Rattle.unifier.specs.Walks.{Stands, Tells-kind}
-use Rattle.unifier.specs.Promises.{Stand-both, Equals, Leaves, Tells-shape, Candidate-is, Unites, Unites-with}
+use Rattle.unifier.specs.Walks.{Stands, Reads-node, Tells-kind}
+use Rattle.unifier.specs.Promises.{Stand-both, Equals, Leaves, Tells-shape, Unites, Unites-with}
+use Rattle.unifier.specs.declared.node.Node.{Node}
+use Rattle.unifier.specs.declared.node.Node.the-variants.{Var, Primitive, Poly, ObjectMethod, Object, Function, Phi}
 use Rattle.unifier.specs.declared.node.Candidate.{Candidate}
 use Rattle.unifier.specs.declared.node.Candidate.the-variants.{Found, Nothing}
+use Rattle.unifier.proofs.node.Node.{the-type}
 use Rattle.unifier.proofs.Outcomes.{by-bool}
 use Rattle.unifier.proofs.Nodes.{function-kinds}
 
 pub eqb-swap : (a b : ℕ) → eqb a b ≡ eqb b a
 eqb-swap a b =
     by-bool (eqb a b) (λ e. e ∙ sym (eq-eqb b a (sym (eqb-true a b e)))) (λ e. e ∙ sym (ne-eqb b a (λ h. eqb-false a b e (sym h))))
-
--- the kinds of Functions
-either-true : (a b : Bool) → (a || b) ≡ true → (a ≡ false) → b ≡ true
-either-true true b h e = absurd (let z : _≡_ {A = ℕ} 0 1 = cc in omega arith)
-either-true false b h e = h
-
-neither : (a b : Bool) → (a || b) ≡ false → (a ≡ false) × (b ≡ false)
-neither true b h = absurd (let z : _≡_ {A = ℕ} 0 1 = cc in omega arith)
-neither false b h = (refl, h)
-
-pub is-function-kind : {k : ℕ} → (eqb k 5 || eqb k 6) ≡ true → (5 ≤ k) × (k ≤ 6)
-is-function-kind {k} h =
-    by-bool (eqb k 5) (λ e. omega (arith, eqb-true k 5 e)) (λ e. omega (arith, eqb-true k 6 (either-true (eqb k 5) (eqb k 6) h e)))
-
-pub no-function-kind : {k : ℕ} → (eqb k 5 || eqb k 6) ≡ false → (k ≡ 5 → ⊥) × (k ≡ 6 → ⊥)
-no-function-kind {k} h = let q = neither (eqb k 5) (eqb k 6) h in (eqb-false k 5 (q .0), eqb-false k 6 (q .1))
 
 -- what a kind rules out
 not-var : (t : Ty) → (type-kind t ≡ 0 → ⊥) → as-var t ≡ none
@@ -60,53 +49,41 @@ not-object (object s) z = absurd (z refl)
 not-object (func c s t) z = refl
 not-object (phi ts) z = refl
 
-not-function : (t : Ty) → (type-kind t ≡ 5 → ⊥) → (type-kind t ≡ 6 → ⊥) → as-function t ≡ none
-unfolding type-kind as-function function-kind
-not-function (var x) y z = refl
-not-function prim y z = refl
-not-function poly y z = refl
-not-function method y z = refl
-not-function (object s) y z = refl
-not-function (func false s t) y z = absurd (y refl)
-not-function (func true s t) y z = absurd (z refl)
-not-function (phi ts) y z = refl
+-- the tags of a node that is no Function
+abbrev pub No-function : Node → Type 0
+No-function r = OneOf (0 ∷ 1 ∷ 2 ∷ 3 ∷ 4 ∷ 6 ∷ []) (tagOf the-type r)
+
+module _ {w : List ℕ} {lo top n : ℕ} {t : Ty} (f : top ≤ length w) where
+  pub no-function : (r : Node) → No-function r → Reads-node w lo n r → Rep w lo top n t → as-function t ≡ none
+  unfolding as-function
+  no-function (Var s) k h q = rw (h .shows top t f q .0)
+  no-function Primitive k h q = rw (h .shows top t f q)
+  no-function Poly k h q = rw (h .shows top t f q)
+  no-function ObjectMethod k h q = rw (h .shows top t f q)
+  no-function (Object s) k h q = rw (h .shows top t f q)
+  no-function (Function i s m) k h q = absurd (miss (0 ∷ 1 ∷ 2 ∷ 3 ∷ 4 ∷ 6 ∷ []) 5 tt k)
+  no-function (Phi a c) k h q = rw (h .shows top t f q .1)
+
+no-function-kind : (t : Ty) → as-function t ≡ none → (type-kind t ≡ 5 → ⊥) × (type-kind t ≡ 6 → ⊥)
+unfolding type-kind as-function
+no-function-kind (var x) e = (λ z. omega arith, λ z. omega arith)
+no-function-kind prim e = (λ z. omega arith, λ z. omega arith)
+no-function-kind poly e = (λ z. omega arith, λ z. omega arith)
+no-function-kind method e = (λ z. omega arith, λ z. omega arith)
+no-function-kind (object s) e = (λ z. omega arith, λ z. omega arith)
+no-function-kind (func c s t) e = absurd (let z : _≡_ {A = ℕ} 0 1 = cc in omega arith)
+no-function-kind (phi ts) e = (λ z. omega arith, λ z. omega arith)
 
 -- types of two kinds, of which the first is no Function
-kinds-differ : (t u : Ty) → (type-kind t ≡ 5 → ⊥) × (type-kind t ≡ 6 → ⊥) → (type-kind t ≡ type-kind u → ⊥) → type-equals t u ≡ false
-unfolding type-kind type-equals equals-some is-primitive is-poly is-object-method function-kind
+kinds-differ : (t u : Ty) → as-function t ≡ none → (type-kind t ≡ type-kind u → ⊥) → type-equals t u ≡ false
+unfolding type-kind type-equals equals-some is-primitive is-poly is-object-method as-function
 kinds-differ (var x) u f z = rw (not-var u (λ e. z (sym e)))
 kinds-differ prim u f z = ne-eqb (type-kind u) 1 (λ e. z (sym e))
 kinds-differ poly u f z = ne-eqb (type-kind u) 2 (λ e. z (sym e))
 kinds-differ method u f z = ne-eqb (type-kind u) 3 (λ e. z (sym e))
 kinds-differ (object s) u f z = rw (not-object u (λ e. z (sym e)))
-kinds-differ (func false s t) u f z = absurd (f .0 refl)
-kinds-differ (func true s t) u f z = absurd (f .1 refl)
+kinds-differ (func c s t) u f z = absurd (let q : _≡_ {A = ℕ} 0 1 = cc in omega arith)
 kinds-differ (phi ts) u f z = refl
-
--- a Function, as its node's words show it
-record Function-at (w : List ℕ) (lo top n : ℕ) (t : Ty) : Type 0 where
-  c : Bool
-  s : ℕ
-  r : Ty
-  is : t ≡ func c s r
-  high : n + 3 ≤ top
-  lower : at w (n + 2) < n
-  rep : Rep w lo top (at w (n + 2)) r
-
-leaf-low : {t : Ty} {k a : ℕ} → Leaf t k a → type-kind t ≤ 4
-unfolding type-kind
-leaf-low (leaf-prim h) = omega arith
-leaf-low (leaf-poly h) = omega arith
-leaf-low (leaf-method h) = omega arith
-leaf-low (leaf-object h e) = omega arith
-
-function-at : {w : List ℕ} {lo top n : ℕ} {t : Ty} → 5 ≤ type-kind t → type-kind t ≤ 6 → Rep w lo top n t → Function-at w lo top n t
-unfolding type-kind
-function-at l m (rep-var h e) = absurd (omega arith)
-function-at l m (rep-leaf o h k) = absurd (let q = leaf-low k in omega arith)
-function-at {w} {lo} {top} l m (rep-func {s = s} {r = r} c o h k a b d q) =
-    record { c = c; s = s; r = r; is = refl; high = h; lower = omega arith; rep = subst (λ (x : ℕ). Rep w lo top x r) (sym b) q }
-function-at l m (rep-phi o h k a b q) = absurd (omega arith)
 
 leaf-object-at : {t : Ty} {k a : ℕ} → type-kind t ≡ 4 → Leaf t k a → t ≡ object a
 unfolding type-kind
@@ -137,60 +114,43 @@ var-at z (rep-leaf o h k) = absurd (leaf-no-var z k)
 var-at z (rep-func c o h k a b d q) = absurd (let l = function-kinds c in omega arith)
 var-at z (rep-phi o h k a b q) = absurd (omega arith)
 
-module _ {w : List ℕ} {lo a b k j : ℕ} (A : Tells-kind w lo a k) (B : Tells-kind w lo b j) where
-  pub equals-differ : (k ≡ 5 → ⊥) × (k ≡ 6 → ⊥) → (k ≡ j → ⊥) → Equals w lo a b false
-  equals-differ z d = record {
-    is = λ top t u f p q.
-        let x = A .is top t f p in
-        let y = B .is top u f q in
-        sym (kinds-differ t u (λ e. z .0 (x ∙ e), λ e. z .1 (x ∙ e)) (λ e. d (x ∙ e ∙ sym y)));
+-- two nodes, of which the first is no Function
+module _ {w : List ℕ} {lo a b k j : ℕ} {r : Node} (z : No-function r) (h : Reads-node w lo a r) (A : Tells-kind w lo a k) (B : Tells-kind w lo b j) where
+  pub equals-differ : (k ≡ j → ⊥) → Equals w lo a b false
+  equals-differ d = record {
+    is = λ top t u f p q. sym (kinds-differ t u (no-function f r z h p) (λ e. d (A .is top t f p ∙ e ∙ sym (B .is top u f q))));
   }
 
-  pub equals-no-function : (5 ≤ k) × (k ≤ 6) → (j ≡ 5 → ⊥) × (j ≡ 6 → ⊥) → Equals w lo a b false
+  pub leaves : Stand-both w lo a b → k ≡ j → Leaves w lo a b k
+  leaves S e =
+      let x = A .is (S .top) (S .t) (S .fits) (S .left) in
+      let y = no-function-kind (S .t) (no-function (S .fits) r z h (S .left)) in
+      record { both = S; left-kind = A; right-kind = rw e B; no-function = (λ i. y .0 (sym x ∙ i), λ i. y .1 (sym x ∙ i)) }
+
+-- a Function and another node
+module _ {w : List ℕ} {lo a b k s m : ℕ} (h : Reads-node w lo a (Function k s m)) where
+  pub equals-no-function : {r : Node} → No-function r → Reads-node w lo b r → Equals w lo a b false
   unfolding type-equals
-  equals-no-function l z = record {
-    is = λ top t u f p q.
-        let x = A .is top t f p in
-        let y = B .is top u f q in
-        let F = function-at (omega arith) (omega arith) p in
-        rw (F .is, not-function u (λ e. z .0 (y ∙ e)) (λ e. z .1 (y ∙ e)), type-equals);
+  equals-no-function {r} z h′ = record {
+    is = λ top t u f p q. rw (h .shows top t f p .2, no-function f r z h′ q, type-equals);
   }
 
-  module _ (l : (5 ≤ k) × (k ≤ 6)) (m : (5 ≤ j) × (j ≤ 6)) where
+  module _ {k′ s′ m′ : ℕ} (h′ : Reads-node w lo b (Function k′ s′ m′)) where
     -- Functions are equal as their return types are
-    pub equals-inside : {r : Bool} → Equals w lo (at w (a + 2)) (at w (b + 2)) r → Equals w lo a b r
+    pub equals-inside : {r : Bool} → Equals w lo m m′ r → Equals w lo a b r
     unfolding type-equals as-function
-    equals-inside {r} h = record {
+    equals-inside g = record {
       is = λ top t u f p q.
-          let x = A .is top t f p in
-          let y = B .is top u f q in
-          let F = function-at (omega arith) (omega arith) p in
-          let G = function-at (omega arith) (omega arith) q in
-          rw (F .is, G .is) (h .is top (F .r) (G .r) f (F .rep) (G .rep));
+          let x = h .shows top t f p in
+          let y = h′ .shows top u f q in
+          rw (x .2, y .2) (g .is top (x .1) (y .1) f (x .5) (y .5));
     }
 
-    -- where they lie
-    pub record Inside : Type 0 where
-      pub both : Stand-both w lo (at w (a + 2)) (at w (b + 2))
-      pub left-fits : a + 3 ≤ length w
-      pub right-fits : b + 3 ≤ length w
-      pub lower : at w (a + 2) < a
-
-    pub stand-inside : Stand-both w lo a b → Inside
+    pub stand-inside : Stand-both w lo a b → (m < a) × Stand-both w lo m m′
     stand-inside S =
-        let f = S .fits in
-        let x = A .is (S .top) (S .t) f (S .left) in
-        let y = B .is (S .top) (S .u) f (S .right) in
-        let F = function-at (omega arith) (omega arith) (S .left) in
-        let G = function-at (omega arith) (omega arith) (S .right) in
-        let p = F .high in
-        let q = G .high in
-        record {
-          both = record { top = S .top; t = F .r; u = G .r; fits = f; left = F .rep; right = G .rep };
-          left-fits = omega arith;
-          right-fits = omega arith;
-          lower = F .lower;
-        }
+        let x = h .shows (S .top) (S .t) (S .fits) (S .left) in
+        let y = h′ .shows (S .top) (S .u) (S .fits) (S .right) in
+        (x .4, record { top = S .top; t = x .1; u = y .1; fits = S .fits; left = x .5; right = y .5 })
 
 -- two types of one of the kinds 1 to 3
 plain-equal : (t u : Ty) → type-kind t ≡ type-kind u → 1 ≤ type-kind t → type-kind t ≤ 3 → type-equals t u ≡ true

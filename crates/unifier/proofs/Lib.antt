@@ -29,3 +29,4 @@ pub mod Checked
 pub mod Candidates
 pub mod Phis
 pub mod Unifying
+pub mod Lookups

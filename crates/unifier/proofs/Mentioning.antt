@@ -2,15 +2,15 @@
 use mathlib.Core.Path.{_≡_, refl, sym, ap, _∙_, subst}
 use mathlib.Core.Bool.{Bool, true, false}
 use mathlib.Core.List.{List, [], _∷_, _++_}
-use Prim.Native.Nat.{ℕ, zero, suc, _+_, _-_, _≤_, _<_}
+use Prim.Native.Nat.{ℕ, _+_, _-_, _≤_, _<_}
 use native.Mathlib.Omega.{arith}
 use lib.Dec.{eqb}
 use lib.ListN.{length}
-use Rattle.image.specs.Ty.{Ty, var, prim, poly, method, object, func, phi, Tys, nil, cons, count-of, variables, variables-all}
+use Rattle.image.specs.Ty.{Ty, Tys, cons, count-of, variables, variables-all}
 use Rattle.image.specs.Nesting.{member}
 use Rattle.image.specs.declared.TypeId.{TypeId}
 use Rattle.unifier.specs.Log.{mentions}
-use Rattle.unifier.specs.Work.{at, Rep, Reps, reps-nil, reps-cons}
+use Rattle.unifier.specs.Work.{at, Reps, reps-nil, reps-cons}
 use Rattle.unifier.specs.Walks.{Stands, Reads-node}
 use Rattle.unifier.specs.Promises.{Stand-all, Tells-mention, Tells-mention-all}
 use Rattle.unifier.specs.declared.node.Node.{Node}

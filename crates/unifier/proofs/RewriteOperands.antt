@@ -1,26 +1,25 @@
 -- The loop of `try_resolve_type` over operands: what holds after k of them, and what it gives at the end. Assumes nothing.
 use mathlib.Core.Path.{_≡_, refl, sym, ap, _∙_, subst}
-use mathlib.Core.Bool.{Bool, true, false}
+use mathlib.Core.Bool.{true, false}
 use mathlib.Core.List.{List}
-use mathlib.Core.Option.{Option, none, some}
-use Prim.Native.Nat.{ℕ, zero, suc, _+_, _*_, _≤_, _<_}
+use mathlib.Core.Option.{none}
+use Prim.Native.Nat.{ℕ, suc, _+_, _*_, _≤_, _<_}
 use native.Mathlib.Omega.{arith}
-use lib.Dec.{eqb}
-use lib.ListN.{length, set, length-set}
+use lib.ListN.{set, length-set}
 use borrow.Author.Tests.{eq-eqb, ne-eqb}
-use Rattle.image.specs.Ty.{Ty, var, Tys, nil, cons, count-of}
+use Rattle.image.specs.Ty.{Ty, Tys, nil, cons, count-of}
 use Rattle.unifier.specs.Cases.{as-var}
 use Rattle.unifier.specs.Equal.{equals-some}
 use Rattle.unifier.specs.Log.{Log}
 use Rattle.unifier.specs.Outcome.{Refusal, Outcome, done, refused, and-then}
 use Rattle.unifier.specs.Resolve.{Resolved, resolve-operands}
-use Rattle.unifier.specs.Work.{at, Leaf, leaf-prim, leaf-poly, leaf-method, leaf-object, Rep, rep-var, rep-leaf, rep-func, rep-phi, Reps, reps-nil, Good, Room, Frame, Paid}
-use Rattle.unifier.specs.Walks.{Known, Known-all, Refuses}
+use Rattle.unifier.specs.Work.{at, Leaf, leaf-prim, leaf-poly, leaf-method, leaf-object, Rep, rep-var, rep-leaf, rep-func, rep-phi, Reps, reps-nil, Good, Room, Frame}
+use Rattle.unifier.specs.Walks.{Known, Known-all}
 use Rattle.unifier.specs.Promises.{Rewrites, Rewrites-all}
 use Rattle.unifier.specs.declared.resolve.Got.{Got}
 use Rattle.unifier.specs.declared.resolve.State.{State}
 use Rattle.unifier.proofs.Words.{at-same, at-other}
-use Rattle.unifier.proofs.Frames.{Same, rep-same, reps-same, rep-low, good-same, frame-refl, frame-trans}
+use Rattle.unifier.proofs.Frames.{rep-same, reps-same, rep-low, good-same, frame-refl, frame-trans}
 use Rattle.unifier.proofs.Nodes.{is-var}
 use Rattle.unifier.proofs.GetOperands.{snoc, append, append-snoc, append-nil, count-snoc, reps-snoc, Next, next, none-left, turn}
 use Rattle.unifier.proofs.Mentioning.{next-place}

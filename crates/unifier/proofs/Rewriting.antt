@@ -2,21 +2,20 @@
 use mathlib.Core.Path.{_≡_, refl, sym, ap, _∙_, subst}
 use mathlib.Core.Bool.{Bool, true, false}
 use mathlib.Core.List.{List}
-use mathlib.Core.Option.{Option, none, some}
-use Prim.Native.Nat.{ℕ, zero, suc, _+_, _*_, _-_, _≤_, _<_}
+use Prim.Native.Nat.{ℕ, _+_, _-_, _≤_, _<_}
 use native.Mathlib.Omega.{arith}
 use lib.Dec.{eqb}
 use lib.ListN.{length, set, length-set}
 use borrow.Author.Tests.{eqb-true, eqb-false}
-use Rattle.image.specs.Ty.{Ty, var, prim, poly, method, object, func, phi, Tys, count-of}
+use Rattle.image.specs.Ty.{Ty, var, prim, poly, method, object, func, phi, Tys}
 use Rattle.image.specs.declared.TypeId.{TypeId}
 use Rattle.unifier.specs.Cases.{is-primitive, is-poly, is-object-method, as-var, as-object, as-function, type-kind}
 use Rattle.unifier.specs.Equal.{equals-some, type-equals}
 use Rattle.unifier.specs.Log.{Log, lookup, insert}
 use Rattle.unifier.specs.Outcome.{Outcome, done, refused, out-of-steps, number-of, and-then}
 use Rattle.unifier.specs.Resolve.{get, Resolved, resolve-operands, resolve-var, resolve-body, try-resolve-type}
-use Rattle.unifier.specs.Work.{at, Rep, rep-var, rep-func, rep-phi, Reps, Bound, unbound, bound, Good, Room, Frame, Paid}
-use Rattle.unifier.specs.Walks.{Stands, Reads-node, Known, Known-all, Refuses, Resolves-to, Room-for, Made-function, Made-phi}
+use Rattle.unifier.specs.Work.{at, Rep, rep-var, rep-func, rep-phi, bound, Good, Room}
+use Rattle.unifier.specs.Walks.{Reads-node, Known, Resolves-to, Room-for, Made-function, Made-phi}
 use Rattle.unifier.specs.Promises.{Gives, Equals, Stand-both, Rewrites, Resolves-by, Resolves-got, Rewrites-all}
 use Rattle.unifier.specs.declared.node.Node.{Node}
 use Rattle.unifier.specs.declared.node.Node.the-variants.{Var, Function, Phi}

@@ -10,3 +10,4 @@ pub mod Work
 pub mod Walks
 pub mod Promises
 pub mod Choices
+pub mod Lookup

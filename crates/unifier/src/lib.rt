@@ -3,4 +3,5 @@
 // binding: 0, or the number of a node and 1. From lo on a node is three words: kind, a, b.
 pub mod bind;
 pub mod node;
+pub mod property;
 pub mod resolve;

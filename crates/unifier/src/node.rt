@@ -2,8 +2,6 @@
 ghost use mathlib.Core.Path.{_≡_};
 ghost use Prim.Native.Nat.{_+_, _≤_, _<_, _^_};
 ghost use lib.ListN.{length};
-ghost use mathlib.Core.Bool.{_||_};
-ghost use lib.Dec.{eqb};
 ghost use Rattle.unifier.specs.Walks.{Stands, Reads-node, Tells-kind, Wrote};
 ghost use Rattle.unifier.specs.Promises.{Stand-both, Stand-all, Leaves, Equals, Tells-shape, Unites-with, Unites, Tells-mention, Tells-mention-all};
 use image::TypeId;
@@ -69,15 +67,6 @@ pub enum Candidate {
     Nothing,
 }
 
-fn is_function(kind: u32) -> bool
-    ensures { λ r. ⌜ r ≡ (eqb kind 5 || eqb kind 6) ⌝ }
-{
-    if kind == 5 {
-        return true;
-    }
-    kind == 6
-}
-
 // Two nodes of one kind that is no Function.
 fn leaves_equal(w: &[u32], lo: u32, a: u32, b: u32, kind: u32) -> bool
     requires { ⌜ Leaves (now w) lo a b kind ⌝ }
@@ -99,19 +88,18 @@ pub fn type_equals(w: &[u32], lo: u32, a: u32, b: u32) -> bool
     let mut x = a;
     let mut y = b;
     loop {
-        let k = kind_of(w, lo, x);
-        let j = kind_of(w, lo, y);
-        if !is_function(k) {
-            if k != j {
+        let Node::Function(_, _, from) = node_at(w, lo, x) else {
+            let kind = kind_of(w, lo, x);
+            if kind != kind_of(w, lo, y) {
                 return false;
             }
-            return leaves_equal(w, lo, x, y, k);
-        }
-        if !is_function(j) {
+            return leaves_equal(w, lo, x, y, kind);
+        };
+        let Node::Function(_, _, to) = node_at(w, lo, y) else {
             return false;
-        }
-        x = w[x as usize + 2];
-        y = w[y as usize + 2];
+        };
+        x = from;
+        y = to;
     }
 }
 

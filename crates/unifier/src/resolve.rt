@@ -5,7 +5,7 @@ ghost use lib.ListN.{length};
 ghost use Rattle.unifier.specs.Resolve.{try-resolve-type, resolve-var};
 ghost use Rattle.unifier.specs.Work.{Room};
 ghost use Rattle.unifier.specs.Walks.{Known, Known-all, Copied, Room-for, Made-function, Made-phi};
-ghost use Rattle.unifier.specs.Promises.{Gives, Gives-all, Readable, Readable-all, Checks, Checks-all, Rewrites, Rewrites-all, Resolves-got};
+ghost use Rattle.unifier.specs.Promises.{Gives, Gives-all, Rewrites, Rewrites-all, Resolves-got, Readable, Readable-all, Checks, Checks-all};
 use crate::node::Node;
 use crate::node::node_at;
 use crate::node::put_node;

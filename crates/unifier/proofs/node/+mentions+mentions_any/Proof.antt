@@ -1,8 +1,6 @@
-use mathlib.Core.Path.{sym}
 use native.Mathlib.Omega.{arith}
-use Prim.Native.Nat.{_+_, _*_, _-_}
+use Prim.Native.Nat.{ℕ, _<_, _+_, _*_, _-_}
 use Rattle.unifier.proofs.Mentioning.{tells-var, tells-plain, tells-func, tells-phi, stands-func, stands-phi, Seeking, seeking-none, seeking-next, seeking-found, seeking-more, seeking-end}
-use Prim.Native.Nat.{ℕ, _<_}
 use borrow.Fn.Kinds.{In}
 use borrow.Fn.PlainCycle.{Measures, is, falls, and}
 use Rattle.unifier.proofs.node.mentions.Reads as mentions
@@ -31,26 +29,43 @@ abbrev mentions-at : ℕ → In 1 mentions-kinds.ps
 mentions-at t = and 1 mentions-kinds.ps (is 1 mentions-kinds.ps μ-mentions t) mentions.Pre
 
 abbrev mentions-below : ℕ → In 1 mentions-kinds.ps
-mentions-below t =
-    and 1 mentions-kinds.ps (falls 1 mentions-kinds.ps _<_ μ-mentions t) mentions.Pre
+mentions-below t = and 1 mentions-kinds.ps (falls 1 mentions-kinds.ps _<_ μ-mentions t) mentions.Pre
 
 abbrev mentions-any-at : ℕ → In 1 mentions-any-kinds.ps
-mentions-any-at t =
-    and 1 mentions-any-kinds.ps (is 1 mentions-any-kinds.ps μ-mentions-any t) mentions-any.Pre
+mentions-any-at t = and 1 mentions-any-kinds.ps (is 1 mentions-any-kinds.ps μ-mentions-any t) mentions-any.Pre
 
 abbrev mentions-any-below : ℕ → In 1 mentions-any-kinds.ps
-mentions-any-below t =
-    and
-    1
-    mentions-any-kinds.ps
-    (falls 1 mentions-any-kinds.ps _<_ μ-mentions-any t)
-    mentions-any.Pre
+mentions-any-below t = and 1 mentions-any-kinds.ps (falls 1 mentions-any-kinds.ps _<_ μ-mentions-any t) mentions-any.Pre
 
 abbrev mentions-env : ℕ → mentions-lts.Claims
 mentions-env t = (node-at-reads.Asked, node-at-reads.Learnt, mentions-below t, mentions.Post, mentions-any-below t, mentions-any.Post)
 
 abbrev mentions-any-env : ℕ → mentions-any-lts.Claims
 mentions-any-env t = (mentions-below t, mentions.Post)
+
+mentions-mentions-requires : (t : ℕ) → mentions-lts.Need-mentions-requires (mentions-env t) (mentions-at t) mentions.Post
+mentions-mentions-requires t c κs =
+    let a = c .before .before .before in
+    let s = a .before .before in
+    let q = stands-func (s .pre .1) (rw (c .before .ret .given .1) at (a .node-at .ensures)) in (omega (arith, q .0), q .1)
+
+mentions-mentions-any-requires : (t : ℕ) → mentions-lts.Need-mentions-any-requires (mentions-env t) (mentions-at t) mentions.Post
+mentions-mentions-any-requires t c κs =
+    let a = c .before .before .before in
+    let s = a .before .before in
+    (omega arith, stands-phi (s .pre .1) (rw (c .before .at .given .1) at (a .node-at .ensures)))
+
+mentions-any-returns : (t : ℕ) → mentions-any-lts.Need-returns (mentions-any-env t) (mentions-any-at t) mentions-any.Post mentions-any-Inv-loop mentions-any-μ-loop
+mentions-any-returns t c =
+    let a = c .before .before .before in
+    let l = a .before in
+    seeking-found (l .loop .inv) (a .loop-test .taken) (rw (c .if1 .taken) at (c .before .mentions .ensures))
+
+mentions-any-loop-again : (t : ℕ) → mentions-any-lts.Need-loop-again (mentions-any-env t) (mentions-any-at t) mentions-any.Post mentions-any-Inv-loop mentions-any-μ-loop
+mentions-any-loop-again t c =
+    let a = c .before .before .before in
+    let l = a .before in
+    seeking-more (l .loop .inv) (a .loop-test .taken) (rw (c .if1 .left) at (c .before .mentions .ensures))
 
 pub +mentions+mentions-any-spec : {M : Type 1} → statement M
 +mentions+mentions-any-spec =
@@ -59,9 +74,9 @@ pub +mentions+mentions-any-spec : {M : Type 1} → statement M
     (λ c κs. c .before .pre .1)
     (λ c. c .match .keys1)
     (λ c. c .match .keys2)
-    (λ c κs. let q = stands-func (c .before .before .before .before .before .pre .1) (rw (c .before .ret .given .1) at (c .before .before .before .node-at .ensures)) in (omega (arith, q .0), q .1))
+    (mentions-mentions-requires t)
     (λ c. c .match .keys3)
-    (λ c κs. (omega arith, stands-phi (c .before .before .before .before .before .pre .1) (rw (c .before .at .given .1) at (c .before .before .before .node-at .ensures))))
+    (mentions-mentions-any-requires t)
     (λ c. c .match .keys4)
     (λ c. c .match .keys5)
     (λ c. c .match .keys6)
@@ -80,8 +95,8 @@ pub +mentions+mentions-any-spec : {M : Type 1} → statement M
     (λ c. omega (arith, seeking-next (c .before .loop .inv) (c .loop-test .taken) .0))
     (λ c. omega (arith, seeking-next (c .before .before .loop .inv) (c .before .loop-test .taken) .0))
     (λ c κs. let q = seeking-next (c .before .before .loop .inv) (c .before .loop-test .taken) in (omega (arith, q .1), q .2))
-    (λ c. seeking-found (c .before .before .before .before .loop .inv) (c .before .before .before .loop-test .taken) (rw (c .if1 .taken) at (c .before .mentions .ensures)))
+    (mentions-any-returns t)
     (λ c. omega arith)
     (λ c. omega arith)
-    (λ c. seeking-more (c .before .before .before .before .loop .inv) (c .before .before .before .loop-test .taken) (rw (c .if1 .left) at (c .before .mentions .ensures)))
+    (mentions-any-loop-again t)
     (λ c. seeking-end (c .before .loop .inv) (c .loop-test .left)))

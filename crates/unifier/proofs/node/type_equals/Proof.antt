@@ -1,9 +1,7 @@
 use mathlib.Core.Bool.{Bool}
-use mathlib.Core.Path.{_∙_, sym}
-use native.Mathlib.Omega.{arith}
-use borrow.Author.Tests.{not-true, not-false}
 use Rattle.unifier.specs.Promises.{Stand-both, Equals}
-use Rattle.unifier.proofs.Equalities.{is-function-kind, no-function-kind, stands-left, stands-right, equals-differ, equals-no-function, equals-inside, stand-inside}
+use Rattle.unifier.proofs.Equalities.{stands-left, stands-right, leaves, equals-differ, equals-no-function, equals-inside, stand-inside}
+use Rattle.unifier.proofs.Getting.{read-as}
 use Rattle.unifier.proofs.node.type_equals.Statement.{statement}
 use Rattle.unifier.proofs.node.type_equals.Tie as tie
 
@@ -13,6 +11,45 @@ Inv-loop w lo a b x₀ y₀ x y = Stand-both w lo x y × ((r : Bool) → Equals 
 abbrev μ-loop : tie.MeasureT-loop
 μ-loop w lo a b x₀ y₀ x y = x
 
+returns : tie.Need-returns Inv-loop μ-loop
+returns c =
+    let a = c .before .before in
+    let b = a .before in
+    let d = b .before in
+    let l = d .before in
+    l .loop .inv .1 _ (equals-differ (b .match .keys2) (d .node-at .ensures) (a .kind-of .ensures) (c .before .kind-of2 .ensures) (c .if1 .taken))
+
+leaves-equal-requires : tie.Need-leaves-equal-requires Inv-loop μ-loop
+leaves-equal-requires c κs =
+    let a = c .before .before in
+    let b = a .before in
+    let d = b .before in
+    let l = d .before in
+    leaves (b .match .keys2) (d .node-at .ensures) (a .kind-of .ensures) (c .before .kind-of2 .ensures) (l .loop .inv .0) (c .if1 .left)
+
+returns-3 : tie.Need-returns-3 Inv-loop μ-loop
+returns-3 c =
+    let m = c .before .before .before in
+    let a = m .before .before in
+    let l = a .before in
+    l .loop .inv .1 _ (equals-no-function (read-as (m .from .given .1) (a .node-at .ensures)) (c .match2 .keys2) (c .before .node-at2 .ensures))
+
+loop-less : tie.Need-loop-less Inv-loop μ-loop
+loop-less c =
+    let a = c .before .before .before in
+    let m = a .before .before in
+    let b = m .before .before in
+    let l = b .before in
+    stand-inside (read-as (m .from .given .1) (b .node-at .ensures)) (read-as (c .before .to .given .1) (a .node-at2 .ensures)) (l .loop .inv .0) .0
+
+loop-again : tie.Need-loop-again Inv-loop μ-loop
+loop-again c =
+    let a = c .before .before .before in
+    let m = a .before .before in
+    let b = m .before .before in
+    let l = b .before in
+    (stand-inside (read-as (m .from .given .1) (b .node-at .ensures)) (read-as (c .before .to .given .1) (a .node-at2 .ensures)) (l .loop .inv .0) .1, λ r e. l .loop .inv .1 r (equals-inside (read-as (m .from .given .1) (b .node-at .ensures)) (read-as (c .before .to .given .1) (a .node-at2 .ensures)) e))
+
 pub type-equals-spec : {M : Type 1} → statement M
 type-equals-spec =
     tie.close
@@ -21,20 +58,14 @@ type-equals-spec =
     μ-loop
     (λ c. (c .before .pre, λ r e. e))
     (λ c κs. stands-left (c .loop .inv .0))
-    (λ c κs. stands-right (c .before .loop .inv .0))
-    (λ c κs. tt)
-    (λ c. c .before .before .before .before .before .loop .inv .1 _ (equals-differ (c .before .before .before .before .kind-of .ensures) (c .before .before .before .kind-of2 .ensures) (no-function-kind (sym (c .before .before .is-function .ensures) ∙ not-true _ (c .before .if1 .taken))) (c .if2 .taken)))
-    (λ c κs. record { both = c .before .before .before .before .before .loop .inv .0; left-kind = c .before .before .before .before .kind-of .ensures; right-kind = rw (c .if2 .left) (c .before .before .before .kind-of2 .ensures); no-function = no-function-kind (sym (c .before .before .is-function .ensures) ∙ not-true _ (c .before .if1 .taken)) })
+    (λ c. c .match .keys1)
+    (λ c κs. stands-left (c .before .before .loop .inv .0))
+    (λ c κs. stands-right (c .before .before .before .loop .inv .0))
+    returns
+    leaves-equal-requires
     (λ c. c .before .before .before .before .before .before .loop .inv .1 _ (c .leaves-equal .ensures))
-    (λ c κs. tt)
-    (λ c. c .before .before .before .before .before .before .loop .inv .1 _ (equals-no-function (c .before .before .before .before .before .kind-of .ensures) (c .before .before .before .before .kind-of2 .ensures) (is-function-kind (sym (c .before .before .before .is-function .ensures) ∙ not-false _ (c .before .before .if1 .left))) (no-function-kind (sym (c .before .is-function2 .ensures) ∙ not-true _ (c .if3 .taken)))))
-    (λ c. omega (arith, stand-inside (c .before .before .before .before .before .kind-of .ensures) (c .before .before .before .before .kind-of2 .ensures) (is-function-kind (sym (c .before .before .before .is-function .ensures) ∙ not-false _ (c .before .before .if1 .left))) (is-function-kind (sym (c .before .is-function2 .ensures) ∙ not-false _ (c .if3 .left))) (c .before .before .before .before .before .before .loop .inv .0)))
-    (λ c. omega (arith, stand-inside (c .before .before .before .before .before .kind-of .ensures) (c .before .before .before .before .kind-of2 .ensures) (is-function-kind (sym (c .before .before .before .is-function .ensures) ∙ not-false _ (c .before .before .if1 .left))) (is-function-kind (sym (c .before .is-function2 .ensures) ∙ not-false _ (c .if3 .left))) (c .before .before .before .before .before .before .loop .inv .0)))
-    (λ c. omega (arith, stand-inside (c .before .before .before .before .before .kind-of .ensures) (c .before .before .before .before .kind-of2 .ensures) (is-function-kind (sym (c .before .before .before .is-function .ensures) ∙ not-false _ (c .before .before .if1 .left))) (is-function-kind (sym (c .before .is-function2 .ensures) ∙ not-false _ (c .if3 .left))) (c .before .before .before .before .before .before .loop .inv .0)))
-    (λ c. omega (arith, stand-inside (c .before .before .before .before .before .before .kind-of .ensures) (c .before .before .before .before .before .kind-of2 .ensures) (is-function-kind (sym (c .before .before .before .before .is-function .ensures) ∙ not-false _ (c .before .before .before .if1 .left))) (is-function-kind (sym (c .before .before .is-function2 .ensures) ∙ not-false _ (c .before .if3 .left))) (c .before .before .before .before .before .before .before .loop .inv .0)))
-    (λ c. omega (arith, stand-inside (c .before .before .before .before .before .before .kind-of .ensures) (c .before .before .before .before .before .kind-of2 .ensures) (is-function-kind (sym (c .before .before .before .before .is-function .ensures) ∙ not-false _ (c .before .before .before .if1 .left))) (is-function-kind (sym (c .before .before .is-function2 .ensures) ∙ not-false _ (c .before .if3 .left))) (c .before .before .before .before .before .before .before .loop .inv .0)))
-    (λ c. omega (arith, stand-inside (c .before .before .before .before .before .before .kind-of .ensures) (c .before .before .before .before .before .kind-of2 .ensures) (is-function-kind (sym (c .before .before .before .before .is-function .ensures) ∙ not-false _ (c .before .before .before .if1 .left))) (is-function-kind (sym (c .before .before .is-function2 .ensures) ∙ not-false _ (c .before .if3 .left))) (c .before .before .before .before .before .before .before .loop .inv .0)))
-    (λ c. omega (arith, stand-inside (c .before .before .before .before .before .before .kind-of .ensures) (c .before .before .before .before .before .kind-of2 .ensures) (is-function-kind (sym (c .before .before .before .before .is-function .ensures) ∙ not-false _ (c .before .before .before .if1 .left))) (is-function-kind (sym (c .before .before .is-function2 .ensures) ∙ not-false _ (c .before .if3 .left))) (c .before .before .before .before .before .before .before .loop .inv .0)))
-    (λ c. omega (arith, stand-inside (c .before .before .before .before .before .before .before .kind-of .ensures) (c .before .before .before .before .before .before .kind-of2 .ensures) (is-function-kind (sym (c .before .before .before .before .before .is-function .ensures) ∙ not-false _ (c .before .before .before .before .if1 .left))) (is-function-kind (sym (c .before .before .before .is-function2 .ensures) ∙ not-false _ (c .before .before .if3 .left))) (c .before .before .before .before .before .before .before .before .loop .inv .0)))
-    (λ c. stand-inside (c .before .before .before .before .before .before .before .kind-of .ensures) (c .before .before .before .before .before .before .kind-of2 .ensures) (is-function-kind (sym (c .before .before .before .before .before .is-function .ensures) ∙ not-false _ (c .before .before .before .before .if1 .left))) (is-function-kind (sym (c .before .before .before .is-function2 .ensures) ∙ not-false _ (c .before .before .if3 .left))) (c .before .before .before .before .before .before .before .before .loop .inv .0) .lower)
-    (λ c. let l = c .before .before .before .before .before .before .before .before in (stand-inside (c .before .before .before .before .before .before .before .kind-of .ensures) (c .before .before .before .before .before .before .kind-of2 .ensures) (is-function-kind (sym (c .before .before .before .before .before .is-function .ensures) ∙ not-false _ (c .before .before .before .before .if1 .left))) (is-function-kind (sym (c .before .before .before .is-function2 .ensures) ∙ not-false _ (c .before .before .if3 .left))) (l .loop .inv .0) .both, λ r e. l .loop .inv .1 r (equals-inside (c .before .before .before .before .before .before .before .kind-of .ensures) (c .before .before .before .before .before .before .kind-of2 .ensures) (is-function-kind (sym (c .before .before .before .before .before .is-function .ensures) ∙ not-false _ (c .before .before .before .before .if1 .left))) (is-function-kind (sym (c .before .before .before .is-function2 .ensures) ∙ not-false _ (c .before .before .if3 .left))) e))))
+    (λ c κs. stands-right (c .before .before .before .before .loop .inv .0))
+    (λ c. c .match2 .keys1)
+    returns-3
+    loop-less
+    loop-again)

@@ -1,4 +1,3 @@
-use mathlib.Core.Path.{sym}
 use Rattle.unifier.proofs.Equalities.{stands-right, unites-primitive, unites-array, unites-nothing}
 use Rattle.unifier.proofs.node.union_with.Statement.{statement}
 use Rattle.unifier.proofs.node.union_with.Tie as tie
