@@ -272,8 +272,22 @@ fn types(cases: &mut Cases) {
     for (length, expected) in [(4_095, 0), (4_096, 0), (4_097, 7), (4_098, 7)] {
         let mut image = least();
         let primitive = image.primitive();
-        image.phi(&vec![primitive; length - 2]);
-        cases.add(format!("a phi of {length} words"), expected, image.write());
+        let parts = [
+            (2, image.var(0)),
+            (1, image.poly()),
+            (1, image.method()),
+            (2, image.object(NONE)),
+            (2, image.object(0)),
+            (3, image.function(NONE, primitive)),
+            (3, image.constructor(0, primitive)),
+            (2, image.phi(&[])),
+            (4, image.phi(&[primitive, primitive])),
+        ];
+        for (words, part) in parts {
+            let mut image = image.clone();
+            image.phi(&[vec![part; 10], vec![primitive; length - 2 - 10 * words]].concat());
+            cases.add(format!("a phi of {length} words with ten of type {part}"), expected, image.write());
+        }
 
         let mut image = least();
         let mut number = if length % 2 == 1 { image.primitive() } else { image.object(NONE) };

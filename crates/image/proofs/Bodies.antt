@@ -1,20 +1,15 @@
--- Laws of bodies that read: each by its number, what one of many gives, and what the answer of the pass over them means. Assumes nothing.
+-- Laws of bodies that read: each by its number, and what one of many gives. Assumes nothing.
 use Prim.Native.Nat.{ℕ, zero, suc, _+_, _<_}
 use native.Mathlib.Omega.{arith}
 use native.Mathlib.Nat.{zero-add, add-zero, add-suc, suc-add}
 use mathlib.Core.Path.{_≡_, refl, ap}
-use mathlib.Core.Bool.{Bool, true, false}
 use mathlib.Core.Option.{Option, none, some}
 use mathlib.Core.List.{List, [], _∷_}
 use lib.ListN.{length, getD}
 use Rattle.image.specs.declared.Table.the-variants.{Functions}
-use Rattle.image.specs.declared.nesting.Bodies.the-variants.{Broken, Misnested, Sound}
 use Rattle.image.specs.Image.{count}
 use Rattle.image.specs.Read.{Read, nothing, got, followed, many}
 use Rattle.image.specs.Body.{Body, body-at, bodies-from, bodies}
-use Rattle.image.specs.Nesting.{nesting-sound}
-use Rattle.image.specs.Check.{all-read}
-use Rattle.image.specs.Answer.{answer, bodies-answer}
 
 -- if n + 1 things read, the first does and so do the others
 pub many-first : {A : Type 0} (r : List ℕ → Read A) (n : ℕ) (ws : List ℕ) (xs : List A) (rest : List ℕ) → many r (suc n) ws ≡ got xs rest → (x : A) × (ws₁ : List ℕ) × (ys : List A) × (r ws ≡ got x ws₁) × (many r n ws₁ ≡ got ys rest) × (xs ≡ x ∷ ys)
@@ -60,35 +55,3 @@ bodies-length img bs e = bodies-from-length img 0 (count Functions img) bs e
 pub bodies-each : (img : List ℕ) (bs : List Body) (f : ℕ) (d : Body) → bodies img ≡ some bs → f < count Functions img → body-at img f ≡ some (getD bs f d)
 unfolding bodies
 bodies-each img bs f d e h = rw zero-add at (bodies-from-each img 0 (count Functions img) f bs d e h)
-
--- what the answer of the pass over all bodies says of refusals 9 and 10
-answer-broken : (read nested : Bool) → answer read nested ≡ Broken → read ≡ false
-unfolding answer
-answer-broken false nested e = refl
-answer-broken true false e = let y : _≡_ {A = ℕ} 0 1 = cc in absurd (omega arith)
-answer-broken true true e = let y : _≡_ {A = ℕ} 0 1 = cc in absurd (omega arith)
-
-answer-misnested : (read nested : Bool) → answer read nested ≡ Misnested → (read ≡ true) × (nested ≡ false)
-unfolding answer
-answer-misnested false nested e = let y : _≡_ {A = ℕ} 0 1 = cc in absurd (omega arith)
-answer-misnested true false e = (refl, refl)
-answer-misnested true true e = let y : _≡_ {A = ℕ} 0 1 = cc in absurd (omega arith)
-
-answer-sound : (read nested : Bool) → answer read nested ≡ Sound → (read ≡ true) × (nested ≡ true)
-unfolding answer
-answer-sound false nested e = let y : _≡_ {A = ℕ} 0 1 = cc in absurd (omega arith)
-answer-sound true false e = let y : _≡_ {A = ℕ} 0 1 = cc in absurd (omega arith)
-answer-sound true true e = (refl, refl)
-
--- the same of an image, for its caller
-pub all-broken : (img : List ℕ) → bodies-answer (bodies img) ≡ Broken → all-read (bodies img) ≡ false
-unfolding bodies-answer
-all-broken img e = answer-broken _ _ e
-
-pub all-misnested : (img : List ℕ) → bodies-answer (bodies img) ≡ Misnested → (all-read (bodies img) ≡ true) × (nesting-sound img ≡ false)
-unfolding bodies-answer nesting-sound
-all-misnested img e = answer-misnested _ _ e
-
-pub all-sound : (img : List ℕ) → bodies-answer (bodies img) ≡ Sound → (all-read (bodies img) ≡ true) × (nesting-sound img ≡ true)
-unfolding bodies-answer nesting-sound
-all-sound img e = answer-sound _ _ e

@@ -26,3 +26,4 @@ pub mod BlockReaders
 pub mod Nested
 pub mod Bodies
 pub mod Answers
+pub mod CheckPassed

@@ -22,7 +22,7 @@ use Rattle.infer.specs.Tables.{made-types, binding-rows, tables-of}
 use Rattle.infer.specs.Infer.{Final, infer-types, refusal, with-tables, output-of, after-check, infer}
 use Rattle.infer.specs.Rules.{Visited, entry-type, type-of-slot, Rules, Tables-sound, Run-number, number-done, number-11, number-12, number-13, number-14}
 use Rattle.infer.proofs.Lists.{getD-inside, tabulate-at}
-use Rattle.infer.proofs.CheckPassed.{check-passed}
+use Rattle.image.proofs.CheckPassed.{check-passed}
 use Rattle.infer.proofs.ProgramScope.{Scoped-program, scoped-program}
 use Rattle.infer.proofs.BindingRows.{rows-lookup}
 use Rattle.infer.proofs.Finished.{Finished, run-finished, finished-scope, finished-sound, finished-length}

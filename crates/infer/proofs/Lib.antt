@@ -1,5 +1,4 @@
 pub mod Lists
-pub mod CheckPassed
 pub mod BodyReads
 pub mod NamedAbove
 pub mod Depths

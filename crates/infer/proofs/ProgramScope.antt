@@ -27,7 +27,7 @@ use Rattle.unifier.proofs.PropertyLaws.{Registry-only}
 use Rattle.infer.specs.Infer.{registry}
 use Rattle.infer.specs.Rules.{Instruction-of, entry-type}
 use Rattle.infer.proofs.Lists.{tabulate-length, tabulate-at, tabulate-each}
-use Rattle.infer.proofs.CheckPassed.{Checked-image}
+use Rattle.image.proofs.CheckPassed.{Checked-image}
 use Rattle.infer.proofs.BodyReads.{body-names, body-identifier}
 use Rattle.infer.proofs.NamedAbove.{Named-above, instruction-names, nested-above, no-instruction}
 use Rattle.infer.proofs.TypeSlots.{type-slots}

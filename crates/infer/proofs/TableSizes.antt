@@ -23,7 +23,7 @@ use Rattle.unifier.proofs.RunLaws.{Equation-only, types-only, property-only, un
 use Rattle.infer.specs.Generate.{generate}
 use Rattle.infer.specs.Tables.{made-types, binding-rows, tables-of}
 use Rattle.infer.specs.Infer.{registry, Final, infer-types, Answer, refusal, with-tables, output-of, after-check, infer}
-use Rattle.infer.proofs.CheckPassed.{Checked-image, check-passed}
+use Rattle.image.proofs.CheckPassed.{Checked-image, check-passed}
 use Rattle.infer.proofs.TypeSlots.{type-words}
 use Rattle.infer.proofs.ProgramScope.{Scoped-program, scoped-program, entries-length}
 use Rattle.infer.proofs.GenerateScope.{generate-scoped}

@@ -30,3 +30,4 @@ pub mod Candidates
 pub mod Phis
 pub mod Unifying
 pub mod Lookups
+pub mod Accesses

@@ -234,23 +234,38 @@ pub tabulate-at : {A : Type 0} (t : Table) (img : List ℕ) (f : ℕ → A) (d :
 unfolding tabulate
 tabulate-at t img f d n h = tabulated f d 0 (count t img) n n (omega arith) h
 
+-- what it lists past its rows
+tabulated-past : {A : Type 0} (f : ℕ → A) (d : A) (k n j : ℕ) → n ≤ j → getD (tabulate-from f k n) j d ≡ d
+unfolding tabulate-from
+tabulated-past f d k zero j h = refl
+tabulated-past f d k (suc n) zero h = absurd (omega arith)
+tabulated-past f d k (suc n) (suc j) h = tabulated-past f d (suc k) n j (omega arith)
+
+shape-past : (img bytes : List ℕ) (s : ℕ) → count Shapes img ≤ s → getD (registry-of img bytes .shapes) s none ≡ none
+unfolding registry-of tabulate
+shape-past img bytes s h = tabulated-past (shape-at img bytes) none 0 (count Shapes img) s h
+
 shape-row : (img bytes : List ℕ) (s : ℕ) → s < count Shapes img → getD (registry-of img bytes .shapes) s none ≡ shape-at img bytes s
 unfolding registry-of
 shape-row img bytes s h = tabulate-at Shapes img (shape-at img bytes) none s h
 
 -- the row of a shape that is one
-module _ {img bytes : List ℕ} {shape : ℕ} {key : Key} (h : Lookup-asked img bytes shape key) (m : shape ≡ NONE → ⊥) where
+module _ {img bytes : List ℕ} {shape : ℕ} {key : Key} (h : Lookup-asked img bytes key) (m : shape < count Shapes img) where
   pub shape-word : (k : ℕ) → k < 3 → In-table Shapes img shape k
-  shape-word k l = record { laid = h .registry .names .laid; row = h .shape-inside m; column = l }
+  shape-word k l = record { laid = h .registry .names .laid; row = m; column = l }
 
   pub shape-rows : {first n : ℕ} → first ≡ cell Shapes img shape 1 → n ≡ cell Shapes img shape 2 → Rows-inside img bytes first n
-  shape-rows p q = record { registry = h .registry; within = rw (p, q) (h .registry .shape shape (h .shape-inside m)) }
+  shape-rows p q = record { registry = h .registry; within = rw (p, q) (h .registry .shape shape m) }
 
--- a lookup by the object's shape: none, one that is absent, one that is registered
+-- a lookup by the object's shape: none, one past the table, one that is absent, one that is registered
 module _ (img bytes : List ℕ) (shape : ℕ) (name : PropertyNameKind) where
   pub lookup-unshaped : shape ≡ NONE → lookup-shape (registry-of img bytes) shape name ≡ hook-rule (registry-of img bytes) name
   unfolding lookup-shape
   lookup-unshaped e = rw (lookup-shape, eq-eqb shape NONE e)
+
+  pub lookup-past : {n : ℕ} → n ≡ count Shapes img → (shape ≡ NONE → ⊥) → n ≤ shape → lookup-shape (registry-of img bytes) shape name ≡ nothing
+  unfolding lookup-shape on-shape
+  lookup-past e m h = rw (lookup-shape, ne-eqb shape NONE m, shape-past img bytes shape (omega arith))
 
   module _ {present : ℕ} (m : shape ≡ NONE → ⊥) (h : shape < count Shapes img) (e : present ≡ cell Shapes img shape 0) where
     pub lookup-absent : (present ≡ 1 → ⊥) → lookup-shape (registry-of img bytes) shape name ≡ nothing

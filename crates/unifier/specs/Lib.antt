@@ -11,3 +11,4 @@ pub mod Walks
 pub mod Promises
 pub mod Choices
 pub mod Lookup
+pub mod Accesses

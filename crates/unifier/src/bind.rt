@@ -21,7 +21,8 @@ use crate::resolve::occurs_check;
 use crate::resolve::try_resolve_type;
 use image::TypeId;
 
-fn refuse(st: State, left: u32, number: u32) -> State
+// The state with these steps left, and this number.
+pub fn refuse(st: State, left: u32, number: u32) -> State
     ensures { λ r. ⌜ r ≡ record { left = left; top = st .top; stack = st .stack; refused = number } ⌝ }
 {
     let top = st.top;

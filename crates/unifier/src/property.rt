@@ -9,6 +9,7 @@ use crate::node::node_at;
 use image::NONE;
 use image::Table;
 use image::cell;
+use image::count;
 use image::name_bytes;
 use names::digits::digits_of;
 use names::is_hook_name;
@@ -140,11 +141,14 @@ fn on_registered(img: &[u32], bytes: &[u8], first: u32, n: u32, key: Key) -> Loo
 
 // The type of a property, on an object of this shape, NONE for no shape or another kind of type.
 pub fn resolve_property_type(img: &[u32], bytes: &[u8], shape: u32, key: Key) -> Lookup
-    requires { ⌜ Lookup-asked (now img) (now bytes) shape key ⌝ }
+    requires { ⌜ Lookup-asked (now img) (now bytes) key ⌝ }
     ensures { λ r. ⌜ Looked-up (now (img .entry)) r (lookup-shape (registry-of (now (img .entry)) (now (bytes .entry))) shape (key-name (now (img .entry)) (now (bytes .entry)) key)) ⌝ }
 {
     if shape == NONE {
         return hook_rule(img, bytes, key);
+    }
+    if shape >= count(img, Table::Shapes) {
+        return Lookup::Nothing;
     }
     if cell(img, Table::Shapes, shape, 0) != 1 {
         return Lookup::Nothing;

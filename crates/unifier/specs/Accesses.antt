@@ -1,0 +1,52 @@
+-- `unify` with a Property on the right, over the work words: what it asks and what it promises. Assumes nothing.
+use Prim.Native.Nat.{ℕ, _<_}
+use mathlib.Core.Path.{_≡_}
+use mathlib.Core.Bool.{Bool}
+use mathlib.Core.List.{List}
+use Rattle.image.specs.Ty.{USE-REF, REF-VALUE, Ty, object}
+use Rattle.image.specs.Image.{count, type-at}
+use Rattle.image.specs.declared.Table.the-variants.{Types}
+use Rattle.unifier.specs.Log.{Log}
+use Rattle.unifier.specs.Outcome.{Outcome, and-then}
+use Rattle.unifier.specs.Property.{PropertyNameKind, Access, Registry, resolve-property-type, is-ref-access}
+use Rattle.unifier.specs.Unify.{unify, unify-found, unify-property}
+use Rattle.unifier.specs.Work.{Rep, Good, Room}
+use Rattle.unifier.specs.Walks.{Unifies}
+use Rattle.unifier.specs.Promises.{Keeps, Known-both}
+use Rattle.unifier.specs.Lookup.{registry-of, key-name, type-node, Registry-inside, Key-inside}
+use Rattle.unifier.specs.declared.access.Places.{Places}
+use Rattle.unifier.specs.declared.property.Key.{Key}
+use Rattle.unifier.specs.declared.resolve.State.{State}
+
+-- `unify` of t with a Property of an object of type u, where it is a ref access
+abbrev pub unify-as-ref : Log → ℕ → Ty → Ty → Outcome Log
+unify-as-ref σ s t u = and-then (unify σ s u (object USE-REF)) (λ σ₁ s₁. unify σ₁ s₁ t (object REF-VALUE))
+
+-- `unify` of t with the type of a property of this name, on an object that was resolved to o
+abbrev pub unify-by-name : Registry → PropertyNameKind → Log → ℕ → Ty → Ty → Outcome Log
+unify-by-name reg name σ s t o = unify-found σ s t (resolve-property-type reg o name)
+
+-- the types of the image stand at their nodes
+pub record Types-laid (w : List ℕ) (lo top types : ℕ) (img : List ℕ) : Type 0 where
+  pub rep : (n : ℕ) → n < count Types img → Rep w lo top (type-node img types n) (type-at img n)
+
+-- the Objects of USE-REF and REF-VALUE stand at theirs
+pub record Refs-laid (w : List ℕ) (top : ℕ) (p : Places) : Type 0 where
+  pub use-ref : Rep w (p .lo) top (p .«use_ref») (object USE-REF)
+  pub ref-value : Rep w (p .lo) top (p .«ref_value») (object REF-VALUE)
+
+-- what `unify_property` asks: a checked image and a key of it, room, and nodes that stand for what they should
+pub record Access-asked (img bytes w : List ℕ) (p : Places) (st : State) (a obj : ℕ) (key : Key) : Type 0 where
+  pub registry : Registry-inside img bytes
+  pub key-inside : Key-inside img key
+  pub room : Room w (st .top) (st .left) (st .stack)
+  pub known : Known-both w (p .lo) (st .top) a obj
+  pub types : Types-laid w (p .lo) (st .top) (p .types) img
+  pub refs : Refs-laid w (st .top) p
+
+-- the promise of `unify_property`
+pub record Accesses (img bytes w w′ : List ℕ) (lo : ℕ) (st : State) (a obj : ℕ) (key : Key) (ref-like : Bool) (r : State) : Type 0 where
+  pub keeps : Keeps w w′ lo st r
+  pub means : (σ : Log) (t u : Ty) (x : Access) → Good w lo (st .top) σ → Rep w lo (st .top) a t → Rep w lo (st .top) obj u
+      → x .object-type ≡ u → x .property-name ≡ key-name img bytes key → is-ref-access (registry-of img bytes) x ≡ ref-like
+      → Unifies w′ lo r (unify-property (registry-of img bytes) σ (st .left) t x)

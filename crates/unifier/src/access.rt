@@ -1,0 +1,129 @@
+// unify with a Property on the right.
+ghost use mathlib.Core.Path.{_≡_};
+ghost use Rattle.unifier.specs.Work.{Room};
+ghost use Rattle.unifier.specs.Promises.{Known-both, Binds};
+ghost use Rattle.unifier.specs.Lookup.{registry-of, key-name, lookup-number, type-node, Type-placed};
+ghost use Rattle.unifier.specs.Accesses.{unify-as-ref, unify-by-name, Refs-laid, Access-asked, Accesses};
+use crate::bind::refuse;
+use crate::bind::unify;
+use crate::property::Entry;
+use crate::property::Key;
+use crate::property::Lookup;
+use crate::property::resolve_property_type;
+use crate::property::shape_of;
+use crate::resolve::State;
+use crate::resolve::get;
+use image::Table;
+use image::cell;
+
+// Where the nodes start; the first node of the image's types; the nodes of the Objects of shapes USE_REF and REF_VALUE.
+pub struct Places {
+    pub lo: u32,
+    pub types: u32,
+    pub use_ref: u32,
+    pub ref_value: u32,
+}
+
+// The node of a type of the image.
+pub fn node_of_type(img: &[u32], types: u32, t: u32) -> u32
+    requires { ⌜ Type-placed (now img) types t ⌝ }
+    ensures { λ r. ⌜ r ≡ type-node (now (img .entry)) types t ⌝ }
+{
+    if cell(img, Table::Types, t, 0) == 0 {
+        return cell(img, Table::Types, t, 1);
+    }
+    types + 3 * t
+}
+
+// The type number that a lookup gives.
+fn number_of(found: Lookup) -> Entry
+    ensures { λ r. ⌜ r ≡ lookup-number found ⌝ }
+{
+    match found {
+        Lookup::Exact(t) => Entry::Is(t),
+        Lookup::Star(t) => Entry::Is(t),
+        Lookup::Hook(t) => Entry::Is(t),
+        Lookup::Nothing => Entry::Missing,
+    }
+}
+
+// A ref access: the object is the Object of USE_REF, and the left side that of REF_VALUE.
+fn unify_ref(w: &mut [u32], p: Places, st: State, a: u32, obj: u32) -> State
+    requires { ⌜ Room (now w) (st .top) (st .left) (st .stack) ⌝ }
+    requires { ⌜ Known-both (now w) (p .lo) (st .top) a obj ⌝ }
+    requires { ⌜ Refs-laid (now w) (st .top) p ⌝ }
+    ensures { λ r. ⌜ Binds unify-as-ref (now (w .entry)) (now (w .exit)) (p .lo) st a obj r ⌝ }
+{
+    let lo = p.lo;
+    let s = unify(w, lo, st, obj, p.use_ref);
+    let refused = s.refused;
+    if refused != 0 {
+        return s;
+    }
+    unify(w, lo, s, a, p.ref_value)
+}
+
+// The type of this property, on what the object resolved to.
+fn unify_found(
+    img: &[u32],
+    bytes: &[u8],
+    w: &mut [u32],
+    p: Places,
+    st: State,
+    a: u32,
+    n: u32,
+    key: Key,
+) -> State
+    requires { ⌜ Access-asked (now img) (now bytes) (now w) p st a n key ⌝ }
+    requires { ⌜ st .refused ≡ 0 ⌝ }
+    ensures { λ r. ⌜ Binds (unify-by-name (registry-of (now (img .entry)) (now (bytes .entry))) (key-name (now (img .entry)) (now (bytes .entry)) key)) (now (w .entry)) (now (w .exit)) (p .lo) st a n r ⌝ }
+{
+    let lo = p.lo;
+    let shape = shape_of(w, lo, n);
+    let found = resolve_property_type(img, bytes, shape, key);
+    let Entry::Is(t) = number_of(found) else {
+        return st;
+    };
+    let to = node_of_type(img, p.types, t);
+    unify(w, lo, st, a, to)
+}
+
+// The left side and a property of the object are made one; ref_like: the access is taken for one of a ref.
+pub fn unify_property(
+    img: &[u32],
+    bytes: &[u8],
+    w: &mut [u32],
+    p: Places,
+    st: State,
+    a: u32,
+    obj: u32,
+    key: Key,
+    ref_like: bool,
+) -> State
+    requires { ⌜ Access-asked (now img) (now bytes) (now w) p st a obj key ⌝ }
+    ensures { λ r. ⌜ Accesses (now (img .entry)) (now (bytes .entry)) (now (w .entry)) (now (w .exit)) (p .lo) st a obj key «ref_like» r ⌝ }
+{
+    let steps = st.left;
+    if steps == 0 {
+        return refuse(st, 0, 13);
+    }
+    let next = refuse(st, steps - 1, 0);
+    if ref_like {
+        return unify_ref(w, p, next, a, obj);
+    }
+    let stack = st.stack;
+    let g = get(w, p.lo, next, obj);
+    let left = g.left;
+    let top = g.top;
+    let refused = g.refused;
+    let s = State {
+        left,
+        top,
+        stack,
+        refused,
+    };
+    if refused != 0 {
+        return s;
+    }
+    unify_found(img, bytes, w, p, s, a, g.node, key)
+}
