@@ -28,7 +28,8 @@ use Rattle.unifier.specs.declared.property.Lookup.the-variants.{Exact, S
 use Rattle.unifier.specs.declared.resolve.Got.{Got}
 use Rattle.unifier.specs.declared.resolve.State.{State}
 use Rattle.unifier.proofs.Frames.{rep-same, rep-low, good-same, frame-from, room-left}
-use Rattle.unifier.proofs.Binding.{restated, keeps-still, keeps-trans, keeps-charged, unifies-done, unifies-refused, unifies-as, refuses-then}
+use Rattle.unifier.proofs.Binding.{restated, keeps-still, keeps-trans, keeps-charged, unifies-done, unifies-refused, unifies-as}
+use Rattle.unifier.proofs.Getting.{refuses-then}
 use Rattle.unifier.proofs.Checked.{after, room-fits, room-less}
 use Rattle.unifier.proofs.Lookups.{lookup-by-shape}
 

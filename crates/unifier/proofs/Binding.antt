@@ -98,9 +98,3 @@ module _ {w : List ℕ} {lo : ℕ} {r : State} {out : Outcome Log} where
 
   pub unifies-as : {out′ : Outcome Log} → out ≡ out′ → Unifies w lo r out′ → Unifies w lo r out
   unifies-as e u = subst (λ (o : Outcome Log). Unifies w lo r o) (sym e) u
-
--- a refusal ends what follows
-pub refuses-then : {A B : Type 0} {w : List ℕ} {lo top left number : ℕ} {out : Outcome A} {out′ : Outcome B} (k : A → ℕ → Outcome B)
-    → out′ ≡ and-then out k → Refuses w lo top left number out → Refuses w lo top left number out′
-unfolding and-then
-refuses-then k e h = record { why = h .why; log = h .log; is = e ∙ rw (h .is); by-number = h .by-number; good = h .good }

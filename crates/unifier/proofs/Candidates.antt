@@ -20,7 +20,7 @@ use Rattle.unifier.specs.declared.node.Candidate.the-variants.{Found, No
 use Rattle.unifier.specs.declared.resolve.Got.{Got}
 use Rattle.unifier.specs.declared.resolve.State.{State}
 use Rattle.unifier.proofs.Frames.{rep-same, reps-same, good-same, frame-refl, frame-trans, room-left}
-use Rattle.unifier.proofs.Binding.{refuses-then}
+use Rattle.unifier.proofs.Getting.{refuses-then}
 use Rattle.unifier.proofs.Checked.{after}
 
 -- the first of some operands, and those after it

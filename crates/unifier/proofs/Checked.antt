@@ -18,7 +18,8 @@ use Rattle.unifier.specs.declared.resolve.Got.{Got}
 use Rattle.unifier.specs.declared.resolve.State.{State}
 use Rattle.unifier.specs.declared.resolve.Occurs.the-variants.{Spent, Yes, No}
 use Rattle.unifier.proofs.Frames.{rep-low, room-left}
-use Rattle.unifier.proofs.Binding.{restated, put-good, keeps-still, keeps-trans, keeps-charged, keeps-put, unifies-done, unifies-refused, unifies-as, refuses-then}
+use Rattle.unifier.proofs.Binding.{restated, put-good, keeps-still, keeps-trans, keeps-charged, keeps-put, unifies-done, unifies-refused, unifies-as}
+use Rattle.unifier.proofs.Getting.{refuses-then}
 
 -- what is known lies in the work words
 pub room-fits : {w : List ℕ} {top left stack : ℕ} → Room w top left stack → (top ≤ stack) × (top ≤ length w)
@@ -120,12 +121,6 @@ module _ {w : List ℕ} {lo : ℕ} {st : State} {slot n : ℕ} (f : st .top ≤ 
     keeps = keeps-trans (keeps-still w lo st l 0 le) (keeps-put w (n + 1) (restated st l 0) lt o s);
     means = λ σ t good rep. unifies-done (insert slot t σ) refl (rw (c .is (st .top) σ t f good rep .0)) (put-good lt f rep good);
   }
-
-pub readable : {w : List ℕ} {lo top n : ℕ} → top ≤ length w → Known w lo top n → Readable w lo n
-readable {top = top} f k = record { top = top; σ = k .σ; t = k .t; fits = f; good = k .good; rep = k .rep }
-
-pub stands : {w : List ℕ} {lo top n : ℕ} → top ≤ length w → Known w lo top n → Stands w lo n
-stands {top = top} f k = record { top = top; t = k .t; fits = f; rep = k .rep }
 
 -- steps left after `occurs_check`
 pub yes-fewer : {w : List ℕ} {lo left slot n l : ℕ} → Readable w lo n → Checks w lo left slot n (Yes l) → l ≤ left

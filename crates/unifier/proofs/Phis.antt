@@ -22,7 +22,8 @@ use Rattle.unifier.specs.declared.node.Node.the-variants.{Phi}
 use Rattle.unifier.specs.declared.resolve.Got.{Got}
 use Rattle.unifier.specs.declared.resolve.State.{State}
 use Rattle.unifier.proofs.Frames.{rep-same, reps-same, good-same, frame-from}
-use Rattle.unifier.proofs.Binding.{restated, keeps-still, keeps-trans, unifies-refused, unifies-as, refuses-then}
+use Rattle.unifier.proofs.Binding.{restated, keeps-still, keeps-trans, unifies-refused, unifies-as}
+use Rattle.unifier.proofs.Getting.{refuses-then}
 use Rattle.unifier.proofs.Checked.{after}
 use Rattle.unifier.proofs.Candidates.{operand}
 

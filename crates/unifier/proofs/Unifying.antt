@@ -27,13 +27,12 @@ use Rattle.unifier.proofs.node.Node.{the-type}
 use Rattle.unifier.proofs.Nodes.{is-var}
 use Rattle.unifier.proofs.Fuel.{unify-none, unify-unfold, bind-variable-to-none, bind-variable-to-unfold}
 use Rattle.unifier.proofs.Binding.{restated, keeps-still, keeps-charged, unifies-done, unifies-refused, unifies-as}
+use Rattle.unifier.proofs.Getting.{is-free, is-bound}
+use Rattle.unifier.proofs.Equalities.{No-function, no-function}
 
--- the tags of a node that is no Var, no Function, neither a Var nor a Phi
+-- the tags of a node that is no Var, and of one that is neither a Var nor a Phi
 abbrev pub No-var : Node → Type 0
 No-var r = OneOf (1 ∷ 2 ∷ 3 ∷ 4 ∷ 5 ∷ 6 ∷ []) (tagOf the-type r)
-
-abbrev pub No-function : Node → Type 0
-No-function r = OneOf (0 ∷ 1 ∷ 2 ∷ 3 ∷ 4 ∷ 6 ∷ []) (tagOf the-type r)
 
 abbrev pub Plain : Node → Type 0
 Plain r = OneOf (1 ∷ 2 ∷ 3 ∷ 4 ∷ 5 ∷ []) (tagOf the-type r)
@@ -48,16 +47,6 @@ module _ {w : List ℕ} {lo top n : ℕ} {t : Ty} (f : top ≤ length w) where
   no-var (Object s) k h q = rw (h .shows top t f q)
   no-var (Function i s m) k h q = rw (h .shows top t f q .2)
   no-var (Phi a c) k h q = rw (h .shows top t f q .1)
-
-  pub no-function : (r : Node) → No-function r → Reads-node w lo n r → Rep w lo top n t → as-function t ≡ none
-  unfolding as-function
-  no-function (Var s) k h q = rw (h .shows top t f q .0)
-  no-function Primitive k h q = rw (h .shows top t f q)
-  no-function Poly k h q = rw (h .shows top t f q)
-  no-function ObjectMethod k h q = rw (h .shows top t f q)
-  no-function (Object s) k h q = rw (h .shows top t f q)
-  no-function (Function i s m) k h q = absurd (miss (0 ∷ 1 ∷ 2 ∷ 3 ∷ 4 ∷ 6 ∷ []) 5 tt k)
-  no-function (Phi a c) k h q = rw (h .shows top t f q .1)
 
   pub plain : (r : Node) → Plain r → Reads-node w lo n r → Rep w lo top n t → (as-var t ≡ none) × (as-phi t ≡ none)
   unfolding as-var as-phi
@@ -87,15 +76,6 @@ high-no-var l (rep-var h e) = absurd (omega arith)
 high-no-var l (rep-leaf o h k) = leaf-no-var k
 high-no-var l (rep-func c o h k a b m r) = refl
 high-no-var l (rep-phi o h k a b r) = refl
-
--- a slot's binding
-pub bound-some : {w : List ℕ} {lo top v : ℕ} {o : Option Ty} → (v ≡ 0 → ⊥) → Bound w lo top v o → (t : Ty) × (o ≡ some t) × Rep w lo top (v - 1) t
-bound-some z (unbound h) = absurd (z h)
-bound-some {w} {lo} {top} {v} z (bound {m = m} {t = t} h r) = let e : v - 1 ≡ m = omega arith in (t, refl, rw e r)
-
-pub bound-none : {w : List ℕ} {lo top v : ℕ} {o : Option Ty} → v ≡ 0 → Bound w lo top v o → o ≡ none
-bound-none z (unbound h) = refl
-bound-none z (bound h r) = absurd (omega arith)
 
 -- the constructor flags of two Functions, by their kinds
 kinds-same : (c d : Bool) → function-kind c ≡ function-kind d → Bool·beq c d ≡ true
@@ -303,7 +283,7 @@ module _ {w : List ℕ} {lo : ℕ} {st : State} {v n l : ℕ} (e : st .left ≡ 
         keeps = keeps-charged (omega arith) (m .keeps);
         means = λ σ t u good p q.
             let i = var-read f h p in
-            let x = bound-some z (good .binds (s .0) (i .1)) in
+            let x = is-bound z (good .binds (s .0) (i .1)) in
             unifies-as (when-bound e σ t u (i .0) (ne-eqb (type-kind u) 2 (λ y. c (k .is (st .top) u f q ∙ y))) (x .1)) (m .means σ (x .0) u good (x .2) q);
       }
 
@@ -313,7 +293,7 @@ module _ {w : List ℕ} {lo : ℕ} {st : State} {v n l : ℕ} (e : st .left ≡ 
         keeps = keeps-charged (omega arith) (m .keeps);
         means = λ σ t u good p q.
             let i = var-read f h p in
-            unifies-as (when-free e σ t u (i .0) (ne-eqb (type-kind u) 2 (λ y. c (k .is (st .top) u f q ∙ y))) (bound-none z (good .binds (s .0) (i .1)))) (m .means σ u good q);
+            unifies-as (when-free e σ t u (i .0) (ne-eqb (type-kind u) 2 (λ y. c (k .is (st .top) u f q ∙ y))) (is-free z (good .binds (s .0) (i .1)))) (m .means σ u good q);
       }
 
 -- `bind_unbound`
@@ -324,7 +304,7 @@ module _ {w w′ : List ℕ} {lo : ℕ} {st : State} {slot n : ℕ} {r : State} 
       keeps = m .keeps;
       means = λ σ t good q.
           let i = var-read f h q in
-          let x = bound-some z (good .binds (s .0) (i .1)) in
+          let x = is-bound z (good .binds (s .0) (i .1)) in
           unifies-as (when-to-bound σ (st .left) slot t (i .0) (x .1)) (m .means σ (var slot) (x .0) good (rep-var lt refl) (x .2));
     }
 
@@ -333,7 +313,7 @@ module _ {w w′ : List ℕ} {lo : ℕ} {st : State} {slot n : ℕ} {r : State} 
       keeps = m .keeps;
       means = λ σ t good q.
           let i = var-read f h q in
-          unifies-as (when-to-free σ (st .left) slot t (i .0) (bound-none z (good .binds (s .0) (i .1)))) (m .means σ t good q);
+          unifies-as (when-to-free σ (st .left) slot t (i .0) (is-free z (good .binds (s .0) (i .1)))) (m .means σ t good q);
     }
 
   pub unbound-plain : {k : Node} → Plain k → Reads-node w lo n k → Binds-slot bind-checked w w′ lo st slot n r → Binds-slot (bind-unbound unify) w w′ lo st slot n r
@@ -364,10 +344,10 @@ module _ {w : List ℕ} {lo top n : ℕ} (k : Known w lo top n) where
 
   pub known-bound : {slot : ℕ} → slot < lo → (at w slot ≡ 0 → ⊥) → Known-both w lo top (at w slot - 1) n
   known-bound {slot} lt z =
-      let x = bound-some z (k .good .binds slot lt) in
+      let x = is-bound z (k .good .binds slot lt) in
       record { σ = k .σ; t = x .0; u = k .t; good = k .good; left = x .2; right = k .rep }
 
   pub known-slot-bound : {x slot : ℕ} → x < lo → slot < lo → (at w slot ≡ 0 → ⊥) → Known-both w lo top x (at w slot - 1)
   known-slot-bound {x} {slot} l lt z =
-      let y = bound-some z (k .good .binds slot lt) in
+      let y = is-bound z (k .good .binds slot lt) in
       record { σ = k .σ; t = var x; u = y .0; good = k .good; left = rep-var l refl; right = y .2 }

@@ -1,6 +1,6 @@
 use mathlib.Core.Path.{refl}
 use borrow.Author.Needs.{needs}
-use Rattle.unifier.proofs.Checked.{stands}
+use Rattle.unifier.proofs.Getting.{known-stands}
 use Rattle.unifier.proofs.Unifying.{known-right}
 use Rattle.unifier.proofs.Accesses.{found-inside, found-known, found-nothing, found-type, asked-fits, asked-placed}
 use Rattle.unifier.proofs.access.unify_found.Statement.{statement}
@@ -30,7 +30,7 @@ pub unify-found-spec : {M : Type 1} → statement M
 unify-found-spec =
     tie.close
     (tie.spec
-    (λ c κs. let p = c .before .before .before .before .pre .0 in stands (asked-fits p) (known-right (p .known)))
+    (λ c κs. let p = c .before .before .before .before .pre .0 in known-stands (asked-fits p) (known-right (p .known)))
     (λ c κs. let p = c .before .before .before .before .before .pre .0 in record { registry = p .registry; key-inside = p .key-inside })
     (λ c κs. search needs)
     (λ c. search needs)

@@ -4,7 +4,8 @@ use mathlib.Core.Path.{refl, _∙_}
 use Prim.Native.Nat.{ℕ, _<_, _+_, _*_, _-_}
 use Rattle.unifier.proofs.Frames.{room-left}
 use Rattle.unifier.proofs.Binding.{keeps-room}
-use Rattle.unifier.proofs.Checked.{room-fits, room-less, known-low, stands}
+use Rattle.unifier.proofs.Checked.{room-fits, room-less, known-low}
+use Rattle.unifier.proofs.Getting.{known-stands}
 use Rattle.unifier.proofs.Unifying.{unify-spent, unify-same, unify-left, unify-right, unify-neither, functions-first, functions-second, functions-differ, functions-same, known-returns, bind-spent, bind-no-var, bind-poly, bind-bound, bind-free, unbound-bound, unbound-free, unbound-plain, known-left, known-right, known-swap, stand-both, var-low, known-bound, known-slot-bound}
 use Rattle.unifier.proofs.Phis.{operand-known, phi-empty, phi-spent, first-known, chooses-keeps, phi-stopped, phi-found, found-known, phi-none, none-known}
 use borrow.Fn.Kinds.{In}
@@ -179,7 +180,7 @@ bind-phi-returns-5 t c =
 bind-unbound-node-at-requires : (t : ℕ) → bind-unbound-lts.Need-node-at-requires (bind-unbound-env t) (bind-unbound-at t) bind-unbound.Post
 bind-unbound-node-at-requires t c κs =
     let p = c .before .before .pre .1 in
-    stands (room-fits (p .0) .1) (p .1 .0)
+    known-stands (room-fits (p .0) .1) (p .1 .0)
 
 bind-unbound-slice-read-to : (t : ℕ) → bind-unbound-lts.Need-slice-read-to (bind-unbound-env t) (bind-unbound-at t) bind-unbound.Post
 bind-unbound-slice-read-to t c =
@@ -237,7 +238,7 @@ bind-variable-to-returns t c = rw (c .refuse .ensures) (bind-spent _ _ _ _ _ (c 
 bind-variable-to-node-at-requires : (t : ℕ) → bind-variable-to-lts.Need-node-at-requires (bind-variable-to-env t) (bind-variable-to-at t) bind-variable-to.Post
 bind-variable-to-node-at-requires t c κs =
     let p = c .before .before .before .before .pre .1 in
-    stands (room-fits (p .0) .1) (known-left (p .1))
+    known-stands (room-fits (p .0) .1) (known-left (p .1))
 
 bind-variable-to-returns-2 : (t : ℕ) → bind-variable-to-lts.Need-returns-2 (bind-variable-to-env t) (bind-variable-to-at t) bind-variable-to.Post
 bind-variable-to-returns-2 t c =
@@ -247,7 +248,7 @@ bind-variable-to-returns-2 t c =
 bind-variable-to-kind-of-requires : (t : ℕ) → bind-variable-to-lts.Need-kind-of-requires (bind-variable-to-env t) (bind-variable-to-at t) bind-variable-to.Post
 bind-variable-to-kind-of-requires t c κs =
     let p = c .before .before .before .before .before .before .before .before .before .pre .1 in
-    stands (room-fits (p .0) .1) (known-right (p .1))
+    known-stands (room-fits (p .0) .1) (known-right (p .1))
 
 bind-variable-to-returns-3 : (t : ℕ) → bind-variable-to-lts.Need-returns-3 (bind-variable-to-env t) (bind-variable-to-at t) bind-variable-to.Post
 bind-variable-to-returns-3 t c =
@@ -350,7 +351,7 @@ unify-returns-5 t c =
 unify-functions-node-at-requires : (t : ℕ) → unify-functions-lts.Need-node-at-requires (unify-functions-env t) (unify-functions-at t) unify-functions.Post
 unify-functions-node-at-requires t c κs =
     let p = c .before .before .pre .1 in
-    stands (room-fits (p .0) .1) (known-left (p .1 .0))
+    known-stands (room-fits (p .0) .1) (known-left (p .1 .0))
 
 unify-functions-returns : (t : ℕ) → unify-functions-lts.Need-returns (unify-functions-env t) (unify-functions-at t) unify-functions.Post
 unify-functions-returns t c =
@@ -360,7 +361,7 @@ unify-functions-returns t c =
 unify-functions-node-at-requires-2 : (t : ℕ) → unify-functions-lts.Need-node-at-requires-2 (unify-functions-env t) (unify-functions-at t) unify-functions.Post
 unify-functions-node-at-requires-2 t c κs =
     let p = c .before .before .before .before .before .before .before .pre .1 in
-    stands (room-fits (p .0) .1) (known-right (p .1 .0))
+    known-stands (room-fits (p .0) .1) (known-right (p .1 .0))
 
 unify-functions-returns-2 : (t : ℕ) → unify-functions-lts.Need-returns-2 (unify-functions-env t) (unify-functions-at t) unify-functions.Post
 unify-functions-returns-2 t c =

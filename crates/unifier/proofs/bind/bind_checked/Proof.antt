@@ -1,6 +1,7 @@
 use native.Mathlib.Omega.{arith}
 use borrow.Author.Needs.{needs}
-use Rattle.unifier.proofs.Checked.{room-fits, known-low, room-less, readable, yes-fewer, no-fewer, checked-spent, checked-yes, checked-no}
+use Rattle.unifier.proofs.Checked.{room-fits, known-low, room-less, yes-fewer, no-fewer, checked-spent, checked-yes, checked-no}
+use Rattle.unifier.proofs.Occurring.{known-readable}
 use Rattle.unifier.proofs.bind.bind_checked.Statement.{statement}
 use Rattle.unifier.proofs.bind.bind_checked.Tie as tie
 
@@ -10,7 +11,7 @@ bind-resolved-requires c κs =
     let s = b .before .before .before .before .before in
     let h = rw (b .left .given .1) at (b .before .before .occurs-check .ensures) in
     rw (c .refuse2 .ensures)
-    (room-less (yes-fewer (readable (room-fits (s .pre .0) .1) (s .pre .1 .0)) h) (s .pre .0), (s .pre .1 .0, s .pre .1 .1))
+    (room-less (yes-fewer (known-readable (room-fits (s .pre .0) .1) (s .pre .1 .0)) h) (s .pre .0), (s .pre .1 .0, s .pre .1 .1))
 
 add-w : tie.Need-add-w
 add-w c =
@@ -34,7 +35,7 @@ returns-2 c =
     let s = b .before .before .before .before .before in
     let f = room-fits (s .pre .0) .1 in
     let h = rw (b .left .given .1) at (b .before .before .occurs-check .ensures) in
-    checked-yes f (yes-fewer (readable f (s .pre .1 .0)) h) h (rw (c .before .before .before .refuse2 .ensures) at (c .before .before .bind-resolved .ensures))
+    checked-yes f (yes-fewer (known-readable f (s .pre .1 .0)) h) h (rw (c .before .before .before .refuse2 .ensures) at (c .before .before .bind-resolved .ensures))
 
 returns-3 : tie.Need-returns-3
 returns-3 c =
@@ -43,13 +44,13 @@ returns-3 c =
     let f = room-fits (s .pre .0) in
     let h = rw (b .left2 .given .1) at (b .before .before .occurs-check .ensures) in
     rw (c .refuse3 .ensures)
-    (checked-no (f .1) (no-fewer (readable (f .1) (s .pre .1 .0)) h) (s .pre .1 .1) (known-low (s .pre .0) (s .pre .1 .0) .1) (f .0) h)
+    (checked-no (f .1) (no-fewer (known-readable (f .1) (s .pre .1 .0)) h) (s .pre .1 .1) (known-low (s .pre .0) (s .pre .1 .0) .1) (f .0) h)
 
 pub bind-checked-spec : {M : Type 1} → statement M
 bind-checked-spec =
     tie.close
     (tie.spec
-    (λ c κs. readable (room-fits (c .before .before .pre .0) .1) (c .before .before .pre .1 .0))
+    (λ c κs. known-readable (room-fits (c .before .before .pre .0) .1) (c .before .before .pre .1 .0))
     (λ c. search needs)
     (λ c κs. search needs)
     (λ c. search needs)

@@ -1,6 +1,7 @@
 use native.Mathlib.Omega.{arith}
 use borrow.Author.Needs.{needs}
-use Rattle.unifier.proofs.Checked.{room-fits, known-low, rewrites-known, rewrites-room, resolved-spent, resolved-cycle, resolved-put, stands}
+use Rattle.unifier.proofs.Checked.{room-fits, known-low, rewrites-known, rewrites-room, resolved-spent, resolved-cycle, resolved-put}
+use Rattle.unifier.proofs.Getting.{known-stands}
 use Rattle.unifier.proofs.bind.bind_resolved.Statement.{statement}
 use Rattle.unifier.proofs.bind.bind_resolved.Tie as tie
 
@@ -9,7 +10,7 @@ mentions-requires c κs =
     let b = c .before .before .before .before in
     let h = b .try-resolve-type .ensures in
     let s = b .before .before .before in
-    stands (room-fits (rewrites-room h (s .pre .0)) .1) (rewrites-known h (s .pre .1 .0) (c .before .if1 .left))
+    known-stands (room-fits (rewrites-room h (s .pre .0)) .1) (rewrites-known h (s .pre .1 .0) (c .before .if1 .left))
 
 returns-2 : tie.Need-returns-2
 returns-2 c =
