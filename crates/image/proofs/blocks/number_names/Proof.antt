@@ -2,16 +2,12 @@ use Prim.Native.Nat.{_≤_}
 use Rattle.image.proofs.Levels.{ends-end}
 use Rattle.image.specs.Blocks.{Blocks, Ends}
 use lib.ListN.{length}
-use mathlib.Core.Path.{_≡_, refl}
+use mathlib.Core.Path.{_≡_}
 use Prim.Native.Nat.{_+_, _-_, _<_}
 use borrow.Author.Needs.{needs}
 use native.Mathlib.Omega.{arith}
 use Rattle.image.proofs.blocks.number_names.Statement.{statement}
 use Rattle.image.proofs.blocks.number_names.Tie as tie
-use Rattle.image.proofs.blocks.number_names.Reads as reads
-use Rattle.image.proofs.blocks.number_names.Lts as lts
-use Rattle.image.proofs.blocks.number_bytes.Reads as number-bytes-reads
-use Rattle.image.proofs.blocks.number_level.Reads as number-level-reads
 
 abbrev Inv-loop : tie.InvT-loop
 Inv-loop img bytes numbers₀ other₀ head₀ next₀ recent₀ fronts₀ backs₀ total h₀ numbers other head next recent fronts backs h =
@@ -29,26 +25,12 @@ Inv-loop img bytes numbers₀ other₀ head₀ next₀ recent₀ fronts₀ backs
 abbrev μ-loop : tie.MeasureT-loop
 μ-loop img bytes numbers₀ other₀ head₀ next₀ recent₀ fronts₀ backs₀ total h₀ numbers other head next recent fronts backs h = length bytes + 1 - h
 
--- src/blocks.rt:92:5
-number-bytes-requires : tie.Need-number-bytes-requires Inv-loop μ-loop
-number-bytes-requires c κs = search needs
-
--- src/blocks.rt:95:5
-loop-holds : tie.Need-loop-holds Inv-loop μ-loop
-loop-holds c = search needs
-
--- src/blocks.rt:96:21
-add-twice : tie.Need-add-twice Inv-loop μ-loop
-add-twice c = search needs
-
--- src/blocks.rt:97:9
 number-level-requires : tie.Need-number-level-requires Inv-loop μ-loop
 number-level-requires c κs =
     let pre = c .before .before .before .before .before .before .before .before .before .before .before .before .before .before .before .before .before .before .before .before .before .before .pre in
     let inv = c .before .before .before .before .before .before .before .before .loop .inv in
     ((pre .0 .0, inv .0, omega (arith, c .before .before .before .before .before .before .before .loop-test .taken, pre .0 .0 .few)), (omega (arith, pre .1, inv), (inv .8, inv .9)))
 
--- src/blocks.rt:98:9
 number-level-requires-2 : tie.Need-number-level-requires-2 Inv-loop μ-loop
 number-level-requires-2 c κs =
     let pre = c .before .before .before .before .before .before .before .before .before .before .before .before .before .before .before .before .before .before .before .before .before .before .before .before .before .before .before .before .before .before .before .before .before .before .before .before .before .before .before .before .before .before .pre in
@@ -57,15 +39,12 @@ number-level-requires-2 c κs =
     let long : 65536 ≤ length (c .before .before .before .before .before .before .before .before .before .before .before .before .before .before .before .before .before .before .before .before .before .before .before .before .before .before .before .before .loop .numbers) = omega (arith, pre .1, inv, c .before .before .before .before .before .before .before .before .before .before .before .before .before .before .before .before .before .before .before .before .before .before .before .before .before .before .before .before .before .before .before .number-bytes .kept) in
     ((pre .0 .0, omega (arith, inv .0), omega (arith, c .before .before .before .before .before .before .before .before .before .before .before .before .before .before .before .before .before .before .before .before .before .before .before .before .before .before .before .loop-test .taken, pre .0 .0 .few)), ((record { numbers-long = omega (arith, pre .1, inv, one .kept); head-long = omega (arith, pre .1, inv, one .kept); next-long = omega (arith, pre .1, inv, one .kept); recent-long = omega (arith, pre .1, inv, one .kept); out-long = long }, omega (arith, pre .1, inv, one .kept), omega (arith, pre .1, inv, one .kept)), one .ensures))
 
--- src/blocks.rt:99:13
 add-h : tie.Need-add-h Inv-loop μ-loop
 add-h c = omega (arith, c .before .before .before .before .before .before .before .before .before .before .before .before .before .before .before .before .before .before .before .before .before .before .before .before .before .before .before .before .before .before .before .before .before .before .before .before .before .before .before .before .loop-test .taken, c .before .before .before .before .before .before .before .before .before .before .before .before .before .before .before .before .before .before .before .before .before .before .before .before .before .before .before .before .before .before .before .before .before .before .before .before .before .before .before .before .before .before .before .before .before .before .before .before .before .before .before .before .before .before .before .pre .0 .0 .few)
 
--- src/blocks.rt:95:5
 loop-less : tie.Need-loop-less Inv-loop μ-loop
 loop-less c = omega (arith, c .before .before .before .before .before .before .before .before .before .before .before .before .before .before .before .before .before .before .before .before .before .before .before .before .before .before .before .before .before .before .before .before .before .before .before .before .before .before .before .before .before .loop .inv .0, c .before .before .before .before .before .before .before .before .before .before .before .before .before .before .before .before .before .before .before .before .before .before .before .before .before .before .before .before .before .before .before .before .before .before .before .before .before .before .before .before .loop-test .taken)
 
--- src/blocks.rt:95:5
 loop-again : tie.Need-loop-again Inv-loop μ-loop
 loop-again c =
     let inv = c .before .before .before .before .before .before .before .before .before .before .before .before .before .before .before .before .before .before .before .before .before .before .before .before .before .before .before .before .before .before .before .before .before .before .before .before .before .before .before .before .before .loop .inv in
@@ -73,35 +52,6 @@ loop-again c =
     let two = c .before .before .before .before .before .before .before .before .before .before .before .before .number-level2 .kept in
     (omega (arith, inv .0), omega (arith, inv, one, two), omega (arith, inv, one, two), omega (arith, inv, one, two), omega (arith, inv, one, two), omega (arith, inv, one, two), omega (arith, inv, one, two), omega (arith, inv, one, two), c .before .before .before .before .before .before .before .before .before .before .before .before .number-level2 .ensures .0, c .before .before .before .before .before .before .before .before .before .before .before .before .number-level2 .ensures .1)
 
--- src/blocks.rt:87:1
-same-length : tie.Need-same-length Inv-loop μ-loop
-same-length c = search needs
-
--- src/blocks.rt:87:1
-same-length-2 : tie.Need-same-length-2 Inv-loop μ-loop
-same-length-2 c = search needs
-
--- src/blocks.rt:87:1
-same-length-3 : tie.Need-same-length-3 Inv-loop μ-loop
-same-length-3 c = search needs
-
--- src/blocks.rt:87:1
-same-length-4 : tie.Need-same-length-4 Inv-loop μ-loop
-same-length-4 c = search needs
-
--- src/blocks.rt:87:1
-same-length-5 : tie.Need-same-length-5 Inv-loop μ-loop
-same-length-5 c = search needs
-
--- src/blocks.rt:87:1
-same-length-6 : tie.Need-same-length-6 Inv-loop μ-loop
-same-length-6 c = search needs
-
--- src/blocks.rt:87:1
-same-length-7 : tie.Need-same-length-7 Inv-loop μ-loop
-same-length-7 c = search needs
-
--- src/blocks.rt:87:1
 returns : tie.Need-returns Inv-loop μ-loop
 returns c = ends-end (c .before .loop .inv .9) (c .loop-test .left)
 
@@ -111,19 +61,19 @@ number-names-spec =
     (tie.spec
     Inv-loop
     μ-loop
-    number-bytes-requires
-    loop-holds
-    add-twice
+    (λ c κs. search needs)
+    (λ c. search needs)
+    (λ c. search needs)
     number-level-requires
     number-level-requires-2
     add-h
     loop-less
     loop-again
-    same-length
-    same-length-2
-    same-length-3
-    same-length-4
-    same-length-5
-    same-length-6
-    same-length-7
+    (λ c. search needs)
+    (λ c. search needs)
+    (λ c. search needs)
+    (λ c. search needs)
+    (λ c. search needs)
+    (λ c. search needs)
+    (λ c. search needs)
     returns)

@@ -5,42 +5,19 @@ use native.Mathlib.Omega.{arith}
 use borrow.Author.Needs.{needs}
 use Rattle.image.proofs.numbering.number_first.Statement.{statement}
 use Rattle.image.proofs.numbering.number_first.Tie as tie
-use Rattle.image.proofs.numbering.number_first.Reads as reads
-use Rattle.image.proofs.numbering.number_first.Lts as lts
-use Rattle.image.proofs.numbering.number_pairs.Reads as number-pairs-reads
 
--- src/numbering.rt:111:18
 slice-aggregate-number-pairs : tie.Need-slice-aggregate-number-pairs
 slice-aggregate-number-pairs c = let a = c .before .before .before .before .before .before .before .args in sym (length-take-le (a .n) (a .xs .now) (omega arith))
 
--- src/numbering.rt:111:28
 slice-aggregate-number-pairs-2 : tie.Need-slice-aggregate-number-pairs-2
 slice-aggregate-number-pairs-2 c = let a = c .before .before .before .before .before .before .before .before .args in sym (length-take-le (a .n) (a .ys .now) (omega arith))
 
--- src/numbering.rt:111:5
 number-pairs-requires : tie.Need-number-pairs-requires
 number-pairs-requires c κs =
     let a = c .before .before .before .before .before .before .before .before .before .before .before .before .args in
     let pre = c .before .before .before .before .before .before .before .before .before .before .before .before .pre in
     room-front (a .n) (a .xs .now) (a .ys .now) (pre .0 .1) (pre .0 .2) _ _ _ _ (pre .0 .0) (pre .1 .0) (pre .0 .3) (pre .1 .1) (pre .0 .4)
 
--- src/numbering.rt:106:1
-same-length : tie.Need-same-length
-same-length c = search needs
-
--- src/numbering.rt:106:1
-same-length-2 : tie.Need-same-length-2
-same-length-2 c = search needs
-
--- src/numbering.rt:106:1
-same-length-3 : tie.Need-same-length-3
-same-length-3 c = search needs
-
--- src/numbering.rt:106:1
-same-length-4 : tie.Need-same-length-4
-same-length-4 c = search needs
-
--- src/numbering.rt:106:1
 returns : tie.Need-returns
 returns c =
     let a = c .before .before .before .before .before .before .before .before .before .before .before .before .before .before .before .before .before .before .before .before .before .args in
@@ -54,8 +31,8 @@ number-first-spec =
     slice-aggregate-number-pairs
     slice-aggregate-number-pairs-2
     number-pairs-requires
-    same-length
-    same-length-2
-    same-length-3
-    same-length-4
+    (λ c. search needs)
+    (λ c. search needs)
+    (λ c. search needs)
+    (λ c. search needs)
     returns)

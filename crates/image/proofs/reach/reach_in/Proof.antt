@@ -6,38 +6,20 @@ use native.Mathlib.Omega.{arith}
 use borrow.Author.Needs.{needs}
 use Rattle.image.proofs.reach.reach_in.Statement.{statement}
 use Rattle.image.proofs.reach.reach_in.Tie as tie
-use Rattle.image.proofs.reach.reach_in.Reads as reads
-use Rattle.image.proofs.reach.reach_in.Lts as lts
-use Rattle.image.proofs.count.Reads as count-reads
-use Rattle.image.proofs.numbering.link.Reads as link-reads
-use Rattle.image.proofs.reach.number_rows.Reads as number-rows-reads
-use Rattle.image.proofs.reach.spread.Reads as spread-reads
 
--- src/reach.rt:91:5
-number-rows-requires : tie.Need-number-rows-requires
-number-rows-requires c κs = search needs
-
--- src/reach.rt:92:13
 count-requires : tie.Need-count-requires
 count-requires c κs = c .before .before .before .before .before .before .before .before .before .before .before .before .before .before .before .before .before .before .before .before .before .before .before .before .before .before .before .before .before .before .before .pre .0 .0 .laid .long
 
--- src/reach.rt:92:13
-cast-n : tie.Need-cast-n
-cast-n c = search needs
-
--- src/reach.rt:93:10
 slice-reshare-prefix-link : tie.Need-slice-reshare-prefix-link
 slice-reshare-prefix-link c =
     let pre = c .before .before .before .before .before .before .before .before .before .before .before .before .before .before .before .before .before .before .before .before .before .before .before .before .before .before .before .before .before .before .before .before .pre in
     omega (arith, rows-few (pre .0 .0 .laid), c .count .ensures, pre .1, c .before .before .before .before .before .before .before .before .before .before .before .before .before .before .before .number-rows .kept)
 
--- src/reach.rt:93:10
 slice-aggregate-link : tie.Need-slice-aggregate-link
 slice-aggregate-link c =
     let pre = c .before .before .before .before .before .before .before .before .before .before .before .before .before .before .before .before .before .before .before .before .before .before .before .before .before .before .before .before .before .before .before .before .before .pre in
     sym (length-take-le (c .before .count .result) (c .before .before .before .before .before .before .before .before .before .before .before .before .before .before .before .before .number-rows .last .1 .1 .0) (omega (arith, rows-few (pre .0 .0 .laid), c .before .count .ensures, pre .1, c .before .before .before .before .before .before .before .before .before .before .before .before .before .before .before .before .number-rows .kept)))
 
--- src/reach.rt:93:5
 link-requires : tie.Need-link-requires
 link-requires c κs =
     let pre = c .before .before .before .before .before .before .before .before .before .before .before .before .before .before .before .before .before .before .before .before .before .before .before .before .before .before .before .before .before .before .before .before .before .before .before .pre in
@@ -45,41 +27,32 @@ link-requires c κs =
     let e = length-take-le (c .before .before .before .count .result) (c .before .before .before .before .before .before .before .before .before .before .before .before .before .before .before .before .before .before .number-rows .last .1 .1 .0) (omega (arith, few, c .before .before .before .count .ensures, pre .1, c .before .before .before .before .before .before .before .before .before .before .before .before .before .before .before .before .before .before .number-rows .kept)) in
     omega (arith, e, few, c .before .before .before .count .ensures, pre .1, c .before .before .before .before .before .before .before .before .before .before .before .before .before .before .before .before .before .before .number-rows .kept)
 
--- src/reach.rt:94:5
 spread-requires : tie.Need-spread-requires
 spread-requires c κs =
     let pre = c .before .before .before .before .before .before .before .before .before .before .before .before .before .before .before .before .before .before .before .before .before .before .before .before .before .before .before .before .before .before .before .before .before .before .before .before .before .before .before .before .before .pre in
     omega (arith, rows-few (pre .0 .0 .laid), c .before .before .before .before .before .before .before .before .before .count .ensures, pre .1, c .before .before .before .before .before .link .kept, c .before .before .before .before .before .before .before .before .before .before .before .before .before .before .before .before .before .before .before .before .before .before .before .before .number-rows .kept)
 
--- src/reach.rt:86:1
 same-length : tie.Need-same-length
 same-length c = omega (arith, c .before .before .before .before .before .before .before .before .before .before .before .before .before .before .before .before .before .before .before .before .before .before .before .before .before .before .before .number-rows .kept)
 
--- src/reach.rt:86:1
 same-length-2 : tie.Need-same-length-2
 same-length-2 c = omega (arith, c .before .before .before .before .before .before .before .before .before .before .before .before .before .before .before .before .before .before .before .before .before .before .before .before .before .before .before .number-rows .kept)
 
--- src/reach.rt:86:1
 same-length-3 : tie.Need-same-length-3
 same-length-3 c = omega (arith, c .before .before .before .before .before .before .before .before .link .kept, c .before .before .before .before .before .before .before .before .before .before .before .before .before .before .before .before .before .before .before .before .before .before .before .before .before .before .before .number-rows .kept)
 
--- src/reach.rt:86:1
 same-length-4 : tie.Need-same-length-4
 same-length-4 c = omega (arith, c .before .before .spread .kept, c .before .before .before .before .before .before .before .before .link .kept, c .before .before .before .before .before .before .before .before .before .before .before .before .before .before .before .before .before .before .before .before .before .before .before .before .before .before .before .number-rows .kept)
 
--- src/reach.rt:86:1
 same-length-5 : tie.Need-same-length-5
 same-length-5 c = omega (arith, c .before .before .before .before .before .before .before .before .before .before .before .before .before .before .before .before .before .before .before .before .before .before .before .before .before .before .before .number-rows .kept)
 
--- src/reach.rt:86:1
 same-length-6 : tie.Need-same-length-6
 same-length-6 c = omega (arith, c .before .before .before .before .before .before .before .before .before .before .before .before .before .before .before .before .before .before .before .before .before .before .before .before .before .before .before .number-rows .kept)
 
--- src/reach.rt:86:1
 same-length-7 : tie.Need-same-length-7
 same-length-7 c = omega (arith, c .before .before .before .before .before .before .before .before .before .before .before .before .before .before .before .before .before .before .before .before .before .before .before .before .before .before .before .number-rows .kept)
 
--- src/reach.rt:86:1
 returns : tie.Need-returns
 returns c =
     let pre = c .before .before .before .before .before .before .before .before .before .before .before .before .before .before .before .before .before .before .before .before .before .before .before .before .before .before .before .before .before .before .before .before .before .before .before .before .before .before .before .before .before .before .before .before .pre in
@@ -89,9 +62,9 @@ pub reach-in-spec : {M : Type 1} → statement M
 reach-in-spec =
     tie.close
     (tie.spec
-    number-rows-requires
+    (λ c κs. search needs)
     count-requires
-    cast-n
+    (λ c. search needs)
     slice-reshare-prefix-link
     slice-aggregate-link
     link-requires

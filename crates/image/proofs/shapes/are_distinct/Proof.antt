@@ -7,10 +7,6 @@ use borrow.Author.Needs.{needs}
 use native.Mathlib.Omega.{arith}
 use Rattle.image.proofs.shapes.are_distinct.Statement.{statement}
 use Rattle.image.proofs.shapes.are_distinct.Tie as tie
-use Rattle.image.proofs.shapes.are_distinct.Reads as reads
-use Rattle.image.proofs.shapes.are_distinct.Lts as lts
-use Rattle.image.proofs.shapes.is_among.Reads as is-among-reads
-use Rattle.image.proofs.shapes.row_name.Reads as row-name-reads
 
 abbrev Inv-loop : tie.InvT-loop
 Inv-loop img bytes first end k₀ k = Walked (distinct img bytes) first end k
@@ -18,23 +14,15 @@ Inv-loop img bytes first end k₀ k = Walked (distinct img bytes) first end k
 abbrev μ-loop : tie.MeasureT-loop
 μ-loop img bytes first end k₀ k = end - k
 
--- src/shapes.rt:71:5
 loop-holds : tie.Need-loop-holds Inv-loop μ-loop
 loop-holds c = walked-start _ _ _ (omega arith)
 
--- src/shapes.rt:72:33
 row-name-requires : tie.Need-row-name-requires Inv-loop μ-loop
 row-name-requires c κs = let pre = c .before .before .before .before .pre in (pre .0, omega arith)
 
--- src/shapes.rt:72:58
-add-is-among : tie.Need-add-is-among Inv-loop μ-loop
-add-is-among c = search needs
-
--- src/shapes.rt:72:12
 is-among-requires : tie.Need-is-among-requires Inv-loop μ-loop
 is-among-requires c κs = let pre = c .before .before .before .before .before .pre in (pre .0, omega arith, pre .2)
 
--- src/shapes.rt:73:13
 returns : tie.Need-returns Inv-loop μ-loop
 returns c =
     let a = c .before .before .before .before .before .before .before .args in
@@ -42,22 +30,12 @@ returns c =
     sym
     (walked-stop (c .before .before .before .before .loop .inv) (c .before .before .before .loop-test .taken) (distinct-here _ _ _ _ (sym (c .before .is-among .ensures ∙ ap (λ (name : List ℕ). among (a .img .now) (a .bytes .now) name (k + 1) (a .end - (k + 1))) (c .before .before .row-name .ensures)) ∙ c .if1 .taken)))
 
--- src/shapes.rt:75:9
-add-k : tie.Need-add-k Inv-loop μ-loop
-add-k c = search needs
-
--- src/shapes.rt:71:5
-loop-less : tie.Need-loop-less Inv-loop μ-loop
-loop-less c = search needs
-
--- src/shapes.rt:71:5
 loop-again : tie.Need-loop-again Inv-loop μ-loop
 loop-again c =
     let a = c .before .before .before .before .before .before .before .args in
     let k = c .before .before .before .before .loop .k in
     walked-turn (c .before .before .before .before .loop .inv) (c .before .before .before .loop-test .taken) (distinct-next _ _ _ _ (sym (c .before .is-among .ensures ∙ ap (λ (name : List ℕ). among (a .img .now) (a .bytes .now) name (k + 1) (a .end - (k + 1))) (c .before .before .row-name .ensures)) ∙ c .if1 .left))
 
--- src/shapes.rt:66:1
 returns-2 : tie.Need-returns-2 Inv-loop μ-loop
 returns-2 c = sym (walked-end (c .before .loop .inv) (c .loop-test .left) (distinct-none _ _ _ 0))
 
@@ -69,10 +47,10 @@ are-distinct-spec =
     μ-loop
     loop-holds
     row-name-requires
-    add-is-among
+    (λ c. search needs)
     is-among-requires
     returns
-    add-k
-    loop-less
+    (λ c. search needs)
+    (λ c. search needs)
     loop-again
     returns-2)

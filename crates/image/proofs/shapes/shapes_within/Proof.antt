@@ -6,13 +6,8 @@ use borrow.Author.Tests.{not-true, not-false}
 use mathlib.Core.Path.{sym, _∙_}
 use Prim.Native.Nat.{_-_}
 use borrow.Author.Needs.{needs}
-use native.Mathlib.Omega.{arith}
 use Rattle.image.proofs.shapes.shapes_within.Statement.{statement}
 use Rattle.image.proofs.shapes.shapes_within.Tie as tie
-use Rattle.image.proofs.shapes.shapes_within.Reads as reads
-use Rattle.image.proofs.shapes.shapes_within.Lts as lts
-use Rattle.image.proofs.count.Reads as count-reads
-use Rattle.image.proofs.shapes.is_within.Reads as is-within-reads
 
 abbrev Inv-loop : tie.InvT-loop
 Inv-loop img ends shapes s₀ s = Passed (reach-sound img ends) shapes s
@@ -20,37 +15,17 @@ Inv-loop img ends shapes s₀ s = Passed (reach-sound img ends) shapes s
 abbrev μ-loop : tie.MeasureT-loop
 μ-loop img ends shapes s₀ s = shapes - s
 
--- src/shapes.rt:119:9
-count-requires : tie.Need-count-requires Inv-loop μ-loop
-count-requires c κs = search needs
-
--- src/shapes.rt:121:5
 loop-holds : tie.Need-loop-holds Inv-loop μ-loop
 loop-holds c = passed-start _ _
 
--- src/shapes.rt:122:13
-is-within-requires : tie.Need-is-within-requires Inv-loop μ-loop
-is-within-requires c κs = search needs
-
--- src/shapes.rt:123:13
 returns : tie.Need-returns Inv-loop μ-loop
 returns c =
     sym
     (each-rows Shapes _ _ (c .before .before .before .before .count .ensures) ∙ passed-fails (c .before .before .before .loop .inv) (c .before .before .loop-test .taken) (sym (c .before .is-within .ensures) ∙ not-true _ (c .if1 .taken)))
 
--- src/shapes.rt:125:9
-add-s : tie.Need-add-s Inv-loop μ-loop
-add-s c = search needs
-
--- src/shapes.rt:121:5
-loop-less : tie.Need-loop-less Inv-loop μ-loop
-loop-less c = search needs
-
--- src/shapes.rt:121:5
 loop-again : tie.Need-loop-again Inv-loop μ-loop
 loop-again c = passed-turn (c .before .before .before .loop .inv) (c .before .before .loop-test .taken) (sym (c .before .is-within .ensures) ∙ not-false _ (c .if1 .left))
 
--- src/shapes.rt:115:1
 returns-2 : tie.Need-returns-2 Inv-loop μ-loop
 returns-2 c = sym (each-rows Shapes _ _ (c .before .before .count .ensures) ∙ passed-end (c .before .loop .inv) (c .loop-test .left))
 
@@ -60,11 +35,11 @@ shapes-within-spec =
     (tie.spec
     Inv-loop
     μ-loop
-    count-requires
+    (λ c κs. search needs)
     loop-holds
-    is-within-requires
+    (λ c κs. search needs)
     returns
-    add-s
-    loop-less
+    (λ c. search needs)
+    (λ c. search needs)
     loop-again
     returns-2)
