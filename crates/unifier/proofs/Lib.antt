@@ -31,3 +31,4 @@ pub mod Phis
 pub mod Unifying
 pub mod Lookups
 pub mod Accesses
+pub mod Registered
