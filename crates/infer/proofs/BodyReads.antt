@@ -58,7 +58,8 @@ module _ (l : Limits) where
   pub record Names-known (i : Instruction) : Type 0 where
     pub known : (g : ℕ) → nested i ≡ some g → g < l .functions
 
-  aux-known : (a : Aux) (w g : ℕ) → aux-fits l a w ≡ true → nested-by a w ≡ some g → g < l .functions
+  -- an aux word that names a function names one of the table
+  pub aux-known : (a : Aux) (w g : ℕ) → aux-fits l a w ≡ true → nested-by a w ≡ some g → g < l .functions
   unfolding aux-fits nested-by
   aux-known unused w g e q = let z : _≡_ {A = ℕ} 0 1 = cc in absurd (omega arith)
   aux-known flag w g e q = let z : _≡_ {A = ℕ} 0 1 = cc in absurd (omega arith)
@@ -107,7 +108,8 @@ module _ (l : Limits) where
       subst (λ (y : Body). ((x : Block) → List·Memᴰ x (y .blocks) → Block-known x) × (y .returns < l .identifiers)) s
       (counted-each Block-known (block l) block-known ws₄ e₅, ltb-true r (l .identifiers) (passing-got (λ w. ltb w (l .identifiers)) ws₁ e₂))
 
-whole-got : (o : Read Body) {b : Body} → whole o ≡ some b → o ≡ got b []
+-- a body that reads as a whole leaves no word over
+pub whole-got : (o : Read Body) {b : Body} → whole o ≡ some b → o ≡ got b []
 unfolding whole
 whole-got nothing e = let z : _≡_ {A = ℕ} 0 1 = cc in absurd (omega arith)
 whole-got (got b []) e = cc

@@ -70,7 +70,7 @@ module _ (p : Program) {inner inner′ : ℕ → ℕ → Generated} where
   generate-local b h = λ j k.
       followed-by (only (component-equations p b) [] k) (λ ns k₁.
       followed-by (blocks-local (b .blocks) (λ c m g i n. h g i (record { block = c; block-of = m; here = n })) ns k₁ j) (λ ns₁ k₂.
-      only (return-equations p (get-type p (b .returns)) (returned p (b .blocks))) ns₁ k₂))
+      only (return-equations p (get-type p (b .returns)) (returned (b .blocks))) ns₁ k₂))
 
 concat-same : {A B : Type 0} (f f′ : ℕ → A → List B) (k : ℕ) (xs : List A) → ((j : ℕ) (x : A) → List·Memᴰ x xs → f j x ≡ f′ j x) → concat-map-from f k xs ≡ concat-map-from f′ k xs
 unfolding concat-map-from

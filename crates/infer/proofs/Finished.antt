@@ -7,7 +7,7 @@ use lib.ListN.{length, length-append}
 use Rattle.image.specs.Ty.{Ty, var}
 use Rattle.image.specs.Program.{Program}
 use Rattle.unifier.specs.Log.{Log}
-use Rattle.unifier.specs.Outcome.{Outcome, done, refused, and-then}
+use Rattle.unifier.specs.Outcome.{done}
 use Rattle.unifier.specs.Unify.{unify-all}
 use Rattle.unifier.proofs.Outcomes.{when-done}
 use Rattle.unifier.proofs.Logs.{Sound, each-none}
@@ -19,16 +19,11 @@ use Rattle.infer.specs.Visits.{visits, resolve-identifiers}
 use Rattle.infer.specs.Tables.{made-types}
 use Rattle.infer.specs.Infer.{registry, Final, infer-types}
 use Rattle.infer.proofs.Lists.{tabulate-length}
+use Rattle.infer.proofs.Falling.{then-done}
 use Rattle.infer.proofs.ProgramScope.{Scoped-program, only-weaken}
 use Rattle.infer.proofs.EquationScope.{Below, Scoped}
 use Rattle.infer.proofs.GenerateScope.{generate-scoped}
 use Rattle.infer.proofs.ResolvedVisits.{Applied, resolve-identifiers-law}
-
--- one outcome after another is done: both are
-pub then-done : {A B : Type 0} (o : Outcome A) (k : A → ℕ → Outcome B) {b : B} {s : ℕ} → and-then o k ≡ done b s → (a : A) × (s₁ : ℕ) × (o ≡ done a s₁) × (k a s₁ ≡ done b s)
-unfolding and-then
-then-done (done a s₁) k e = (a, s₁, refl, e)
-then-done (refused r s₁ σ) k e = let z : _≡_ {A = ℕ} 0 1 = cc in absurd (omega arith)
 
 -- a finished run, with s steps left: the types of the image's slots, and the steps left after the equations
 pub record Finished (p : Program) (budget : ℕ) (f : Final) (s : ℕ) : Type 0 where

@@ -83,7 +83,7 @@ module _ {p : Program} (q : Scoped-program p) (inner : ℕ → ℕ → Generated
   function-scoped b k l =
       scoped-followed (scoped-given (component-below q l b)) (λ ns₁ k₁ m₁.
       scoped-followed (blocks-scoped ns₁ k₁ (omega arith) (b .blocks)) (λ ns₂ k₂ m₂.
-      scoped-given (returns-below q (omega arith) (returned p (b .blocks)) (place-below q (omega arith) (b .returns)))))
+      scoped-given (returns-below q (omega arith) (returned (b .blocks)) (place-below q (omega arith) (b .returns)))))
 
 module _ {p : Program} (q : Scoped-program p) where
   -- what a function gives, to any depth

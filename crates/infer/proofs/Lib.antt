@@ -1,4 +1,5 @@
 pub mod Lists
+pub mod Falling
 pub mod BodyReads
 pub mod NamedAbove
 pub mod Depths
@@ -15,3 +16,21 @@ pub mod Finished
 pub mod Demand
 pub mod RowSizes
 pub mod TableSizes
+pub mod PositionLaws
+pub mod PositionsReads
+pub mod PositionsItems
+pub mod PositionsInstructions
+pub mod PositionsBlocks
+pub mod PositionsBody
+pub mod LayingLaws
+pub mod BodyWalks
+pub mod ReturnWalks
+pub mod BodyReturns
+pub mod TypeNodes
+pub mod LaidOut
+pub mod Composing
+pub mod Equating
+pub mod Sinks
+pub mod Emitting
+pub mod EmittedRows
+pub mod Finishing

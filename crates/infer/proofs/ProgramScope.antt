@@ -131,7 +131,8 @@ module _ (img bytes : List ℕ) {budget : ℕ} (c : Checked-image img bytes budg
         shapes = λ s. tabulate-each (λ (o : Option (List Property)). (ps : List Property) → o ≡ some ps → (q : Property) → List·Memᴰ q ps → Only (Image-slot (program img bytes)) (q .type)) (shape-at img bytes) 0 (count Shapes img) none (λ ps e. let z : _≡_ {A = ℕ} 0 1 = cc in absurd (omega arith)) shape-only s;
       }
 
-  function-is : (bs : List Body) → bodies img ≡ some bs → (f : ℕ) → function-of (program img bytes) f ≡ getD bs f no-function
+  -- the functions of the program are the bodies
+  pub function-is : (bs : List Body) → bodies img ≡ some bs → (f : ℕ) → function-of (program img bytes) f ≡ getD bs f no-function
   unfolding function-of program read-bodies
   function-is bs e f = rw e
 

@@ -33,7 +33,8 @@ mutual
   written-all-length nil = refl
   written-all-length (cons t ts) = omega (arith, length-append (written t) (written-all ts), written-length t, written-all-length ts)
 
-types-length : (ts : List Ty) → length (flatMap written ts) ≡ size-of-types ts
+-- types take as many words as their sizes say
+pub types-length : (ts : List Ty) → length (flatMap written ts) ≡ size-of-types ts
 unfolding flatMap size-of-types
 types-length [] = refl
 types-length (t ∷ ts) = omega (arith, length-append (written t) (flatMap written ts), written-length t, types-length ts)

@@ -1,7 +1,7 @@
 -- Made slots, rows and table words of a run are few: each fits a word. Assumes nothing.
 use Prim.Native.Nat.{ℕ, _+_, _*_, _-_, _≤_}
 use mathlib.Core.Path.{_≡_, refl, ap, _∙_}
-use mathlib.Core.List.{List, [], _∷_}
+use mathlib.Core.List.{List, []}
 use native.Mathlib.Omega.{arith}
 use lib.ListN.{length}
 use lib.Dec.{leb}
@@ -11,38 +11,21 @@ use Rattle.image.specs.Image.{count, cell}
 use Rattle.image.specs.Check.{check}
 use Rattle.image.specs.Program.{Program, tabulate, entry-at, program}
 use Rattle.image.proofs.Checked.{laid, slot-type}
-use Rattle.unifier.specs.Log.{Binding, Log}
+use Rattle.unifier.specs.Log.{Binding}
 use Rattle.unifier.specs.Outcome.{Outcome, done, refused}
-use Rattle.unifier.specs.Property.{Registry}
-use Rattle.unifier.specs.Unify.{Equation, _≐_, _≐-property_, unify-equation, unify-all}
-use Rattle.unifier.proofs.Outcomes.{by-bool, when-done}
-use Rattle.unifier.proofs.Mentioned.{Any, only-any}
-use Rattle.unifier.proofs.Kept.{log-any}
-use Rattle.unifier.proofs.PropertyLaws.{Registry-only}
-use Rattle.unifier.proofs.RunLaws.{Equation-only, types-only, property-only, unify-equation-law, run-sized}
+use Rattle.unifier.proofs.Outcomes.{by-bool}
+use Rattle.unifier.proofs.RunLaws.{run-sized}
 use Rattle.infer.specs.Generate.{generate}
 use Rattle.infer.specs.Tables.{made-types, binding-rows, tables-of}
 use Rattle.infer.specs.Infer.{registry, Final, infer-types, Answer, refusal, with-tables, output-of, after-check, infer}
 use Rattle.image.proofs.CheckPassed.{Checked-image, check-passed}
 use Rattle.infer.proofs.TypeSlots.{type-words}
+use Rattle.infer.proofs.Falling.{unify-all-falls}
 use Rattle.infer.proofs.ProgramScope.{Scoped-program, scoped-program, entries-length}
 use Rattle.infer.proofs.GenerateScope.{generate-scoped}
 use Rattle.infer.proofs.ResolvedVisits.{size-of-types}
-use Rattle.infer.proofs.Finished.{then-done, Finished, run-finished, finished-length}
+use Rattle.infer.proofs.Finished.{Finished, run-finished, finished-length}
 use Rattle.infer.proofs.RowSizes.{tables-length, types-append, types-short, vars-sized, rows-sized, rows-count}
-
-equation-any : (e : Equation) → Equation-only Any e
-equation-any (t ≐ u) = types-only only-any only-any
-equation-any (t ≐-property a) = property-only only-any only-any
-
--- each equation costs a step
-pub unify-all-falls : (reg : Registry) (σ : Log) (s : ℕ) (es : List Equation) {τ : Log} {s′ : ℕ} → unify-all reg σ s es ≡ done τ s′ → length es + s′ ≤ s
-unfolding unify-all
-unify-all-falls reg σ s [] {s′ = s′} e = let z : s ≡ s′ = cc in omega arith
-unify-all-falls reg σ s (e ∷ es) q =
-    let (σ₁, s₁, e₁, q₁) = then-done (unify-equation reg σ s e) _ q in
-    let any : Registry-only Any reg = record { hook = λ t f. only-any; shapes = λ k ps f p m. only-any } in
-    omega (arith, when-done (unify-equation-law any σ s e (log-any σ) (equation-any e)) e₁ .falls, unify-all-falls reg σ₁ s₁ es q₁)
 
 module _ {p : Program} (q : Scoped-program p) {budget : ℕ} {f : Final} {s : ℕ} (r : Finished p budget f s) where
   -- a slot made has cost a step

@@ -24,6 +24,11 @@ followed-by g rest =
 unfoldable pub with-names : Names-log → Generated → Generated
 with-names ns g = record { equations = g .equations; names = ns; slots = g .slots }
 
+-- `return_types`: the identifiers of the Return terminals
+unfoldable pub returned : List Block → List ℕ
+returned [] = []
+returned (b ∷ bs) = elim (b .returned) [ none ↦ returned bs | some i ↦ i ∷ returned bs ]
+
 module _ (p : Program) where
   -- the types of identifiers
   unfoldable pub get-types : List ℕ → Tys
@@ -47,11 +52,6 @@ module _ (p : Program) where
   -- a phi: its place is the Phi of its operands
   unfoldable pub phi-equation : PhiNode → Equation
   phi-equation x = get-type p (x .place) ≐ phi (get-types (x .operands))
-
-  -- `return_types`: the identifiers of the Return terminals
-  unfoldable pub returned : List Block → List ℕ
-  returned [] = []
-  returned (b ∷ bs) = elim (b .returned) [ none ↦ returned bs | some i ↦ i ∷ returned bs ]
 
   -- "Unify return types"
   unfoldable pub return-equations : Ty → List ℕ → List Equation

@@ -5,6 +5,17 @@ pub mod Visits
 pub mod Tables
 pub mod Infer
 pub mod Rules
+pub mod Position
+pub mod Fitting
+pub mod Layout
+pub mod Laying
+pub mod Solving
+pub mod Running
+pub mod Parts
+pub mod Naming
+pub mod Generating
+pub mod Standing
+pub mod Writing
 pub mod Compute
 pub mod Sketch
 pub mod Rows

@@ -1,1 +1,6 @@
 // The run.
+mod layout;
+mod tables;
+mod walk;
+
+pub use tables::Answer;

@@ -16,9 +16,9 @@ use Rattle.unifier.specs.Equal.{type-equals}
 use Rattle.unifier.specs.Log.{Log, lookup}
 use Rattle.unifier.specs.Outcome.{out-of-steps, number-of, done, refused}
 use Rattle.unifier.specs.Unify.{bind-checked, binding-of, bind-unbound, bind-slot, bind-body, unify-functions, unify-body, unify, bind-variable-to}
-use Rattle.unifier.specs.Work.{at, Leaf, leaf-prim, leaf-poly, leaf-method, leaf-object, Rep, rep-var, rep-leaf, rep-func, rep-phi, Bound, unbound, bound}
-use Rattle.unifier.specs.Walks.{Known, Reads-node, Tells-kind}
-use Rattle.unifier.specs.Promises.{Stand-both, Equals, Known-both, Binds}
+use Rattle.unifier.specs.Work.{at, Leaf, leaf-prim, leaf-poly, leaf-method, leaf-object, Rep, rep-var, rep-leaf, rep-func, rep-phi, Bound, unbound, bound, Good}
+use Rattle.unifier.specs.Walks.{Known, Reads-node, Tells-kind, Unifies}
+use Rattle.unifier.specs.Promises.{Stand-both, Equals, Keeps, Known-both, Binds, Unifies-nodes}
 use Rattle.unifier.specs.Choices.{Binds-slot, unify-as-functions}
 use Rattle.unifier.specs.declared.node.Node.{Node}
 use Rattle.unifier.specs.declared.node.Node.the-variants.{Var, Primitive, Poly, ObjectMethod, Object, Function, Phi}
@@ -174,11 +174,14 @@ module _ (σ : Log) (s : ℕ) (t u : Ty) where
       when-functions p = rw (e, e′) (rw (kinds-same c c′ p, unify-functions))
 
 -- no step is left
-pub unify-spent : (w : List ℕ) (lo : ℕ) (st : State) (a b : ℕ) → st .left ≡ 0 → Binds unify w w lo st a b (restated st 0 13)
+pub unify-spent : (w : List ℕ) (lo : ℕ) (st : State) (a b : ℕ) → st .left ≡ 0 → Unifies-nodes w w lo st a b (restated st 0 13)
 unfolding number-of
 unify-spent w lo st a b z = record {
-  keeps = keeps-still w lo st 0 13 (omega arith);
-  means = λ σ t u good p q. unifies-refused (record { why = out-of-steps; log = σ; is = rw z (unify-none σ t u); by-number = refl; good = good });
+  binds = record {
+    keeps = keeps-still w lo st 0 13 (omega arith);
+    means = λ σ t u good p q. unifies-refused (record { why = out-of-steps; log = σ; is = rw z (unify-none σ t u); by-number = refl; good = good });
+  };
+  charged = λ n. absurd (n z);
 }
 
 pub bind-spent : (w : List ℕ) (lo : ℕ) (st : State) (a b : ℕ) → st .left ≡ 0 → Binds bind-variable-to w w lo st a b (restated st 0 13)
@@ -190,32 +193,35 @@ bind-spent w lo st a b z = record {
 
 -- `unify`
 module _ {w : List ℕ} {lo : ℕ} {st : State} {a b l : ℕ} (e : st .left ≡ suc l) (f : st .top ≤ length w) where
-  pub unify-same : Equals w lo a b true → Binds unify w w lo st a b (restated st l 0)
-  unify-same h = record {
-    keeps = keeps-still w lo st l 0 (omega arith);
-    means = λ σ t u good p q. unifies-done σ refl (when-same e σ t u (sym (h .is (st .top) t u f p q))) good;
+  -- what is kept after the charge leaves the step paid
+  unify-charged : {w′ : List ℕ} {r : State} → Keeps w w′ lo (restated st l 0) r
+      → ((σ : Log) (t u : Ty) → Good w lo (st .top) σ → Rep w lo (st .top) a t → Rep w lo (st .top) b u → Unifies w′ lo r (unify σ (st .left) t u))
+      → Unifies-nodes w w′ lo st a b r
+  unify-charged k m = record {
+    binds = record { keeps = keeps-charged (omega arith) k; means = m };
+    charged = λ n. let p = k .paid .spent in omega arith;
   }
 
+  pub unify-same : Equals w lo a b true → Unifies-nodes w w lo st a b (restated st l 0)
+  unify-same h =
+      unify-charged (keeps-still w lo (restated st l 0) l 0 (omega arith))
+      (λ σ t u good p q. unifies-done σ refl (when-same e σ t u (sym (h .is (st .top) t u f p q))) good)
+
   module _ {w′ : List ℕ} {r : State} (h : Equals w lo a b false) where
-    pub unify-left : a < lo → Binds bind-variable-to w w′ lo (restated st l 0) a b r → Binds unify w w′ lo st a b r
-    unify-left lt k = record {
-      keeps = keeps-charged (omega arith) (k .keeps);
-      means = λ σ t u good p q. unifies-as (when-left e σ t u (sym (h .is (st .top) t u f p q)) (low-var lt p)) (k .means σ t u good p q);
-    }
+    pub unify-left : a < lo → Binds bind-variable-to w w′ lo (restated st l 0) a b r → Unifies-nodes w w′ lo st a b r
+    unify-left lt k =
+        unify-charged (k .keeps)
+        (λ σ t u good p q. unifies-as (when-left e σ t u (sym (h .is (st .top) t u f p q)) (low-var lt p)) (k .means σ t u good p q))
 
-    pub unify-right : lo ≤ a → b < lo → Binds bind-variable-to w w′ lo (restated st l 0) b a r → Binds unify w w′ lo st a b r
-    unify-right o lt k = record {
-      keeps = keeps-charged (omega arith) (k .keeps);
-      means = λ σ t u good p q.
-          unifies-as (when-right e σ t u (sym (h .is (st .top) t u f p q)) (high-no-var o p) (low-var lt q)) (k .means σ u t good q p);
-    }
+    pub unify-right : lo ≤ a → b < lo → Binds bind-variable-to w w′ lo (restated st l 0) b a r → Unifies-nodes w w′ lo st a b r
+    unify-right o lt k =
+        unify-charged (k .keeps)
+        (λ σ t u good p q. unifies-as (when-right e σ t u (sym (h .is (st .top) t u f p q)) (high-no-var o p) (low-var lt q)) (k .means σ u t good q p))
 
-    pub unify-neither : lo ≤ a → lo ≤ b → Binds unify-as-functions w w′ lo (restated st l 0) a b r → Binds unify w w′ lo st a b r
-    unify-neither o o′ k = record {
-      keeps = keeps-charged (omega arith) (k .keeps);
-      means = λ σ t u good p q.
-          unifies-as (when-neither e σ t u (sym (h .is (st .top) t u f p q)) (high-no-var o p) (high-no-var o′ q)) (k .means σ t u good p q);
-    }
+    pub unify-neither : lo ≤ a → lo ≤ b → Binds unify-as-functions w w′ lo (restated st l 0) a b r → Unifies-nodes w w′ lo st a b r
+    unify-neither o o′ k =
+        unify-charged (k .keeps)
+        (λ σ t u good p q. unifies-as (when-neither e σ t u (sym (h .is (st .top) t u f p q)) (high-no-var o p) (high-no-var o′ q)) (k .means σ t u good p q))
 
 -- `unify_functions`
 module _ {w : List ℕ} {lo : ℕ} {st : State} {a b : ℕ} (f : st .top ≤ length w) where

@@ -181,3 +181,8 @@ pub record Known-both (w : List ℕ) (lo top a b : ℕ) : Type 0 where
 pub record Binds (f : Log → ℕ → Ty → Ty → Outcome Log) (w w′ : List ℕ) (lo : ℕ) (st : State) (a b : ℕ) (r : State) : Type 0 where
   pub keeps : Keeps w w′ lo st r
   pub means : (σ : Log) (t u : Ty) → Good w lo (st .top) σ → Rep w lo (st .top) a t → Rep w lo (st .top) b u → Unifies w′ lo r (f σ (st .left) t u)
+
+-- the promise of `unify`; its own step makes no node, so it can pay for one that the caller made
+pub record Unifies-nodes (w w′ : List ℕ) (lo : ℕ) (st : State) (a b : ℕ) (r : State) : Type 0 where
+  pub binds : Binds unify w w′ lo st a b r
+  pub charged : (st .left ≡ 0 → ⊥) → r .top + 4 * r .left + 4 ≤ st .top + 4 * st .left

@@ -1,9 +1,9 @@
 // unify and bind_variable_to.
 ghost use mathlib.Core.Path.{_≡_};
-ghost use Prim.Native.Nat.{_<_};
+ghost use Prim.Native.Nat.{_<_, _-_};
 ghost use Rattle.unifier.specs.Work.{Room};
 ghost use Rattle.unifier.specs.Walks.{Known, Reads-node};
-ghost use Rattle.unifier.specs.Promises.{Known-both, Binds};
+ghost use Rattle.unifier.specs.Promises.{Known-both, Binds, Unifies-nodes};
 ghost use Rattle.unifier.specs.Choices.{Binds-slot, unify-as-functions, Known-rest, Chooses};
 ghost use Rattle.unifier.specs.Unify.{unify as unify-types, bind-variable-to, bind-unbound, bind-checked, bind-resolved};
 ghost use Rattle.unifier.specs.declared.node.Node.the-variants.{Phi};
@@ -37,9 +37,9 @@ pub fn refuse(st: State, left: u32, number: u32) -> State
 
 // The two types are made one.
 pub fn unify(w: &mut [u32], lo: u32, st: State, a: u32, b: u32) -> State
-    requires { ⌜ Room (now w) (st .top) (st .left) (st .stack) ⌝ }
+    requires { ⌜ Room (now w) (st .top) (st .left - 1) (st .stack) ⌝ }
     requires { ⌜ Known-both (now w) lo (st .top) a b ⌝ }
-    ensures { λ r. ⌜ Binds unify-types (now (w .entry)) (now (w .exit)) lo st a b r ⌝ }
+    ensures { λ r. ⌜ Unifies-nodes (now (w .entry)) (now (w .exit)) lo st a b r ⌝ }
 {
     let steps = st.left;
     if steps == 0 {

@@ -1,6 +1,6 @@
 use mathlib.Core.Path.{refl}
 use borrow.Author.Needs.{needs}
-use Rattle.unifier.proofs.Getting.{known-stands}
+use Rattle.unifier.proofs.Getting.{known-stands, room-charged}
 use Rattle.unifier.proofs.Unifying.{known-right}
 use Rattle.unifier.proofs.Accesses.{found-inside, found-known, found-nothing, found-type, asked-fits, asked-placed}
 use Rattle.unifier.proofs.access.unify_found.Statement.{statement}
@@ -19,12 +19,12 @@ unify-requires : tie.Need-unify-requires
 unify-requires c κs =
     let p = c .before .before .before .before .before .before .before .before .before .before .before .before .pre .0 in
     let i = found-inside (c .before .before .before .before .before .before .resolve-property-type .ensures) (c .before .before .before .before .before .number-of .ensures) (c .before .before .before .t .given .1) in
-    (p .room, found-known (p .types) i (c .before .node-of-type .ensures) (p .known))
+    (room-charged (p .room), found-known (p .types) i (c .before .node-of-type .ensures) (p .known))
 
 returns-2 : tie.Need-returns-2
 returns-2 c =
     let p = c .before .before .before .before .before .before .before .before .before .before .before .before .before .before .before .pre .0 in
-    found-type _ _ (c .before .before .before .before .before .before .before .before .before .before .shape-of .ensures) (c .before .before .before .before .before .before .before .before .before .resolve-property-type .ensures) (c .before .before .before .before .before .before .before .before .number-of .ensures) (asked-fits p) (c .before .before .before .before .before .before .t .given .1) (p .types) (c .before .before .before .before .node-of-type .ensures) (c .before .before .unify .ensures)
+    found-type _ _ (c .before .before .before .before .before .before .before .before .before .before .shape-of .ensures) (c .before .before .before .before .before .before .before .before .before .resolve-property-type .ensures) (c .before .before .before .before .before .before .before .before .number-of .ensures) (asked-fits p) (c .before .before .before .before .before .before .t .given .1) (p .types) (c .before .before .before .before .node-of-type .ensures) (c .before .before .unify .ensures .binds)
 
 pub unify-found-spec : {M : Type 1} → statement M
 unify-found-spec =
@@ -39,5 +39,5 @@ unify-found-spec =
     returns
     node-of-type-requires
     unify-requires
-    (λ c. c .before .before .unify .ensures .keeps .frame .len)
+    (λ c. c .before .before .unify .ensures .binds .keeps .frame .len)
     returns-2)

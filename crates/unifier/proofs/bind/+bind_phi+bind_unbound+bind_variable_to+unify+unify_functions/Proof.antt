@@ -5,7 +5,7 @@ use Prim.Native.Nat.{ℕ, _<_, _+_, _*_, _-_}
 use Rattle.unifier.proofs.Frames.{room-left}
 use Rattle.unifier.proofs.Binding.{keeps-room}
 use Rattle.unifier.proofs.Checked.{room-fits, room-less, known-low}
-use Rattle.unifier.proofs.Getting.{known-stands}
+use Rattle.unifier.proofs.Getting.{known-stands, room-charged}
 use Rattle.unifier.proofs.Unifying.{unify-spent, unify-same, unify-left, unify-right, unify-neither, functions-first, functions-second, functions-differ, functions-same, known-returns, bind-spent, bind-no-var, bind-poly, bind-bound, bind-free, unbound-bound, unbound-free, unbound-plain, known-left, known-right, known-swap, stand-both, var-low, known-bound, known-slot-bound}
 use Rattle.unifier.proofs.Phis.{operand-known, phi-empty, phi-spent, first-known, chooses-keeps, phi-stopped, phi-found, found-known, phi-none, none-known}
 use borrow.Fn.Kinds.{In}
@@ -147,7 +147,7 @@ bind-phi-unify-requires t c κs =
     let h = c .before .before .before .before .before .before .before .before .phi-candidate .ensures in
     let q = h .paid .fewer in
     let q′ = g .fewer z in
-    (omega arith, (keeps-room (chooses-keeps f (p .1 .1 .1) nz g z h) (p .0), found-known f (p .1 .1 .1) nz g z h (c .before .before .before .before .if3 .left) (c .before .before .candidate .given .1) (p .1 .1 .0) (p .1 .0)))
+    (omega arith, (room-charged (keeps-room (chooses-keeps f (p .1 .1 .1) nz g z h) (p .0)), found-known f (p .1 .1 .1) nz g z h (c .before .before .before .before .if3 .left) (c .before .before .candidate .given .1) (p .1 .1 .0) (p .1 .0)))
 
 bind-phi-bind-checked-requires : (t : ℕ) → bind-phi-lts.Need-bind-checked-requires (bind-phi-env t) (bind-phi-at t) bind-phi.Post
 bind-phi-bind-checked-requires t c κs =
@@ -160,13 +160,13 @@ bind-phi-bind-checked-requires t c κs =
     (keeps-room (chooses-keeps f (p .1 .1 .1) nz g z h) (p .0), (none-known f (p .1 .1 .1) nz g z h (c .before .before .before .if3 .left) (p .1 .0), p .1 .1 .0))
 
 bind-phi-same-length-3 : (t : ℕ) → bind-phi-lts.Need-same-length-3 (bind-phi-env t) (bind-phi-at t) bind-phi.Post
-bind-phi-same-length-3 t c = c .before .before .unify .ensures .keeps .frame .len ∙ c .before .before .before .before .before .before .before .before .before .before .before .phi-candidate .ensures .frame .len ∙ c .before .before .before .before .before .before .before .before .before .before .before .before .before .before .before .before .get .ensures .frame .len
+bind-phi-same-length-3 t c = c .before .before .unify .ensures .binds .keeps .frame .len ∙ c .before .before .before .before .before .before .before .before .before .before .before .phi-candidate .ensures .frame .len ∙ c .before .before .before .before .before .before .before .before .before .before .before .before .before .before .before .before .get .ensures .frame .len
 
 bind-phi-returns-4 : (t : ℕ) → bind-phi-lts.Need-returns-4 (bind-phi-env t) (bind-phi-at t) bind-phi.Post
 bind-phi-returns-4 t c =
     let p = c .before .before .before .before .before .before .before .before .before .before .before .before .before .before .before .before .before .before .before .before .before .pre .1 in
     phi-found (room-fits (p .0) .1) (p .1 .1 .1) (c .before .before .before .before .before .before .before .before .before .before .before .before .before .before .before .before .before .before .before .if1 .left) (c .before .before .before .before .before .before .before .before .before .before .before .before .before .before .before .before .get .ensures) (c .before .before .before .before .before .before .before .before .before .before .before .before .before .if2 .left) (c .before .before .before .before .before .before .before .before .before .before .before .phi-candidate .ensures) (c .before .before .before .before .before .before .before .if3 .left) (c .before .before .before .before .before .candidate .given .1)
-    (p .1 .1 .0) (c .before .before .unify .ensures)
+    (p .1 .1 .0) (c .before .before .unify .ensures .binds)
 
 bind-phi-same-length-4 : (t : ℕ) → bind-phi-lts.Need-same-length-4 (bind-phi-env t) (bind-phi-at t) bind-phi.Post
 bind-phi-same-length-4 t c = c .before .before .bind-checked .ensures .keeps .frame .len ∙ c .before .before .before .before .before .before .before .before .before .before .phi-candidate .ensures .frame .len ∙ c .before .before .before .before .before .before .before .before .before .before .before .before .before .before .before .get .ensures .frame .len
@@ -191,15 +191,15 @@ bind-unbound-unify-requires : (t : ℕ) → bind-unbound-lts.Need-unify-requires
 bind-unbound-unify-requires t c κs =
     let p = c .before .before .before .before .before .before .before .before .before .before .pre .1 in
     let h = rw (c .before .before .before .before .before .other .given .1) at (c .before .before .before .before .before .before .before .node-at .ensures) in
-    (omega arith, (p .0, known-slot-bound (p .1 .0) (p .1 .1) (var-low (p .1 .0) (room-fits (p .0) .1) h) (c .before .if1 .taken)))
+    (omega arith, (room-charged (p .0), known-slot-bound (p .1 .0) (p .1 .1) (var-low (p .1 .0) (room-fits (p .0) .1) h) (c .before .if1 .taken)))
 
 bind-unbound-same-length : (t : ℕ) → bind-unbound-lts.Need-same-length (bind-unbound-env t) (bind-unbound-at t) bind-unbound.Post
-bind-unbound-same-length t c = c .before .before .unify .ensures .keeps .frame .len
+bind-unbound-same-length t c = c .before .before .unify .ensures .binds .keeps .frame .len
 
 bind-unbound-returns : (t : ℕ) → bind-unbound-lts.Need-returns (bind-unbound-env t) (bind-unbound-at t) bind-unbound.Post
 bind-unbound-returns t c =
     let p = c .before .before .before .before .before .before .before .before .before .before .before .before .before .pre .1 in
-    unbound-bound (room-fits (p .0) .1) (rw (c .before .before .before .before .before .before .before .before .other .given .1) at (c .before .before .before .before .before .before .before .before .before .before .node-at .ensures)) (p .1 .1) (c .before .before .before .before .if1 .taken) (c .before .before .unify .ensures)
+    unbound-bound (room-fits (p .0) .1) (rw (c .before .before .before .before .before .before .before .before .other .given .1) at (c .before .before .before .before .before .before .before .before .before .before .node-at .ensures)) (p .1 .1) (c .before .before .before .before .if1 .taken) (c .before .before .unify .ensures .binds)
 
 bind-unbound-bind-checked-requires : (t : ℕ) → bind-unbound-lts.Need-bind-checked-requires (bind-unbound-env t) (bind-unbound-at t) bind-unbound.Post
 bind-unbound-bind-checked-requires t c κs = c .before .before .before .before .before .before .before .before .before .before .pre .1
@@ -269,13 +269,13 @@ bind-variable-to-unify-requires t c κs =
     (omega arith, (room-less (omega arith) (p .0), known-bound (known-right (p .1)) (var-low (known-left (p .1)) (room-fits (p .0) .1) h) (c .before .if3 .taken)))
 
 bind-variable-to-same-length-3 : (t : ℕ) → bind-variable-to-lts.Need-same-length-3 (bind-variable-to-env t) (bind-variable-to-at t) bind-variable-to.Post
-bind-variable-to-same-length-3 t c = c .before .before .unify .ensures .keeps .frame .len
+bind-variable-to-same-length-3 t c = c .before .before .unify .ensures .binds .keeps .frame .len
 
 bind-variable-to-returns-4 : (t : ℕ) → bind-variable-to-lts.Need-returns-4 (bind-variable-to-env t) (bind-variable-to-at t) bind-variable-to.Post
 bind-variable-to-returns-4 t c =
     let s = c .before .before .before .before .before .before .before .before .before .before .before .before .before .before .before .before .before .before in
     bind-bound {l = s .args .st .left - 1} (omega (arith, c .before .before .before .before .before .before .before .before .before .before .before .before .before .before .before .before .if1 .left)) (room-fits (s .pre .1 .0) .1) (rw (c .before .before .before .before .before .before .before .before .before .before .before .slot .given .1) at (c .before .before .before .before .before .before .before .before .before .before .before .before .before .node-at .ensures)) (c .before .before .before .before .before .before .before .if2 .left) (c .before .before .before .before .before .before .before .before .kind-of .ensures)
-    (c .before .before .before .before .if3 .taken) (rw (c .before .before .before .before .before .before .before .before .before .before .before .before .before .before .before .refuse2 .ensures) at (c .before .before .unify .ensures))
+    (c .before .before .before .before .if3 .taken) (rw (c .before .before .before .before .before .before .before .before .before .before .before .before .before .before .before .refuse2 .ensures) at (c .before .before .unify .ensures .binds))
 
 bind-variable-to-bind-unbound-requires : (t : ℕ) → bind-variable-to-lts.Need-bind-unbound-requires (bind-variable-to-env t) (bind-variable-to-at t) bind-variable-to.Post
 bind-variable-to-bind-unbound-requires t c κs =
@@ -309,7 +309,7 @@ unify-returns-2 t c =
 unify-bind-variable-to-requires : (t : ℕ) → unify-lts.Need-bind-variable-to-requires (unify-env t) (unify-at t) unify.Post
 unify-bind-variable-to-requires t c κs =
     let p = c .before .before .before .before .before .before .before .before .pre .1 in
-    rw (c .before .before .before .before .before .refuse2 .ensures) (omega arith, (room-less (omega arith) (p .0), p .1))
+    rw (c .before .before .before .before .before .refuse2 .ensures) (omega arith, p)
 
 unify-same-length-2 : (t : ℕ) → unify-lts.Need-same-length-2 (unify-env t) (unify-at t) unify.Post
 unify-same-length-2 t c = c .before .before .bind-variable-to .ensures .keeps .frame .len
@@ -323,7 +323,7 @@ unify-returns-3 t c =
 unify-bind-variable-to-requires-2 : (t : ℕ) → unify-lts.Need-bind-variable-to-requires-2 (unify-env t) (unify-at t) unify.Post
 unify-bind-variable-to-requires-2 t c κs =
     let p = c .before .before .before .before .before .before .before .before .before .pre .1 in
-    rw (c .before .before .before .before .before .before .refuse2 .ensures) (omega arith, (room-less (omega arith) (p .0), known-swap (p .1)))
+    rw (c .before .before .before .before .before .before .refuse2 .ensures) (omega arith, (p .0, known-swap (p .1)))
 
 unify-same-length-3 : (t : ℕ) → unify-lts.Need-same-length-3 (unify-env t) (unify-at t) unify.Post
 unify-same-length-3 t c = c .before .before .bind-variable-to2 .ensures .keeps .frame .len
@@ -337,7 +337,7 @@ unify-returns-4 t c =
 unify-unify-functions-requires : (t : ℕ) → unify-lts.Need-unify-functions-requires (unify-env t) (unify-at t) unify.Post
 unify-unify-functions-requires t c κs =
     let p = c .before .before .before .before .before .before .before .before .before .pre .1 in
-    rw (c .before .before .before .before .before .before .refuse2 .ensures) (omega arith, (room-less (omega arith) (p .0), (p .1, refl)))
+    rw (c .before .before .before .before .before .before .refuse2 .ensures) (omega arith, (p .0, (p .1, refl)))
 
 unify-same-length-4 : (t : ℕ) → unify-lts.Need-same-length-4 (unify-env t) (unify-at t) unify.Post
 unify-same-length-4 t c = c .before .before .unify-functions .ensures .keeps .frame .len
@@ -376,15 +376,15 @@ unify-functions-returns-3 t c =
 unify-functions-unify-requires : (t : ℕ) → unify-functions-lts.Need-unify-requires (unify-functions-env t) (unify-functions-at t) unify-functions.Post
 unify-functions-unify-requires t c κs =
     let p = c .before .before .before .before .before .before .before .before .before .before .before .before .before .pre .1 in
-    (omega arith, (p .0, known-returns (room-fits (p .0) .1) (rw (c .before .before .before .before .before .before .before .before .kind .given .1) at (c .before .before .before .before .before .before .before .before .before .before .node-at .ensures)) (rw (c .before .before .before .other .given .1) at (c .before .before .before .before .before .node-at2 .ensures)) (p .1 .0)))
+    (omega arith, (room-charged (p .0), known-returns (room-fits (p .0) .1) (rw (c .before .before .before .before .before .before .before .before .kind .given .1) at (c .before .before .before .before .before .before .before .before .before .before .node-at .ensures)) (rw (c .before .before .before .other .given .1) at (c .before .before .before .before .before .node-at2 .ensures)) (p .1 .0)))
 
 unify-functions-same-length-4 : (t : ℕ) → unify-functions-lts.Need-same-length-4 (unify-functions-env t) (unify-functions-at t) unify-functions.Post
-unify-functions-same-length-4 t c = c .before .before .unify .ensures .keeps .frame .len
+unify-functions-same-length-4 t c = c .before .before .unify .ensures .binds .keeps .frame .len
 
 unify-functions-returns-4 : (t : ℕ) → unify-functions-lts.Need-returns-4 (unify-functions-env t) (unify-functions-at t) unify-functions.Post
 unify-functions-returns-4 t c =
     let p = c .before .before .before .before .before .before .before .before .before .before .before .before .before .before .before .before .pre .1 in
-    functions-same (room-fits (p .0) .1) (rw (c .before .before .before .before .before .before .before .before .before .before .before .kind .given .1) at (c .before .before .before .before .before .before .before .before .before .before .before .before .before .node-at .ensures)) (rw (c .before .before .before .before .before .before .other .given .1) at (c .before .before .before .before .before .before .before .before .node-at2 .ensures)) (c .before .before .before .before .if1 .left) (c .before .before .unify .ensures)
+    functions-same (room-fits (p .0) .1) (rw (c .before .before .before .before .before .before .before .before .before .before .before .kind .given .1) at (c .before .before .before .before .before .before .before .before .before .before .before .before .before .node-at .ensures)) (rw (c .before .before .before .before .before .before .other .given .1) at (c .before .before .before .before .before .before .before .before .node-at2 .ensures)) (c .before .before .before .before .if1 .left) (c .before .before .unify .ensures .binds)
 
 pub +bind-phi+bind-unbound+bind-variable-to+unify+unify-functions-spec : {M : Type 1} → statement M
 +bind-phi+bind-unbound+bind-variable-to+unify+unify-functions-spec =

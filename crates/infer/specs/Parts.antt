@@ -1,0 +1,42 @@
+-- What the equations of an instruction or of a function ask besides. Assumes nothing.
+use Prim.Native.Nat.{ℕ, _+_, _*_, _≤_, _<_}
+use mathlib.Core.Path.{_≡_}
+use mathlib.Core.Bool.{Bool}
+use mathlib.Core.List.{List, [], _∷_}
+use lib.ListN.{length}
+use Rattle.image.specs.declared.Table.the-variants.{Functions}
+use Rattle.image.specs.Ty.{var, func, function-kind}
+use Rattle.image.specs.Image.{word, count, cell}
+use Rattle.unifier.specs.Unify.{_≐_}
+use Rattle.infer.specs.Fitting.{Identifier-at, Params-fit}
+use Rattle.infer.specs.Solving.{place-type, At-instruction, Solves}
+use Rattle.infer.specs.declared.layout.Layout.{Layout}
+use Rattle.infer.specs.declared.walk.Walk.{Walk}
+
+-- an identifier at a position of the image
+pub record Place-fits (img : List ℕ) (at : ℕ) : Type 0 where
+  pub inside : at < length img
+  pub identifier : Identifier-at img at
+
+-- what `call` asks: a callee, and the kind of a Function
+pub record Call-asked (img w : List ℕ) (lay : Layout) (g : Walk) (at callee kind : ℕ) : Type 0 where
+  pub instruction : At-instruction img w lay g at 0
+  pub callee-fits : Place-fits img callee
+  pub constructs : Bool
+  pub is-function : kind ≡ function-kind constructs
+
+-- the promise of `call`: the callee is a Function that returns the made type, which is the lvalue's
+pub record Calls (img w w′ : List ℕ) (lay : Layout) (g : Walk) (at callee kind shape : ℕ) (r : Walk) : Type 0 where
+  pub solves : (c : Bool) → kind ≡ function-kind c
+      → Solves (place-type img callee ≐ func c shape (var (g .next)) ∷ place-type img (at + 1) ≐ var (g .next) ∷ []) 1 w w′ lay g r
+
+-- what `component` asks: a body's parameters
+pub record Component-asked (img : List ℕ) (at : ℕ) : Type 0 where
+  pub inside : at + 3 ≤ length img
+  pub params : Params-fit img (at + 3) (word img (at + 2))
+
+-- what `returns` asks: a function, and where its body stands
+pub record Function-asked (img : List ℕ) (f at : ℕ) : Type 0 where
+  pub function : f < count Functions img
+  pub body : at ≡ cell Functions img f 0
+  pub place : Place-fits img (at + 1)

@@ -1,0 +1,54 @@
+-- What the work words stand for once the equations are unified: the slots' types and the bindings, and how they are written. Assumes nothing.
+use Prim.Native.Nat.{ℕ, _+_, _≤_, _<_, _^_}
+use mathlib.Core.Path.{_≡_}
+use mathlib.Core.List.{List, _++_}
+use lib.ListN.{length, getD, take, drop}
+use Rattle.image.specs.Ty.{Ty, poly}
+use Rattle.unifier.specs.Log.{Log}
+use Rattle.unifier.specs.Work.{at, Rep, Good}
+use Rattle.infer.specs.Tables.{made-types, binding-rows, tables-of}
+use Rattle.infer.specs.Infer.{Answer, with-tables}
+use Rattle.infer.specs.declared.layout.Layout.{Layout}
+use Rattle.infer.specs.declared.tables.Answer.{Answer as Answered}
+
+-- the slots' types stand from `entries` on, as nodes
+pub record Slots-stand (w : List ℕ) (lay : Layout) (top : ℕ) (types : List Ty) : Type 0 where
+  pub many : length types ≡ lay .slots
+  pub each : (k : ℕ) → k < lay .slots → Rep w (lay .lo) top (at w (lay .entries + k)) (getD types k poly)
+
+-- words put over a list's from a position on
+unfoldable pub put : List ℕ → ℕ → List ℕ → List ℕ
+put t from ws = take from t ++ (ws ++ drop (from + length ws) t)
+
+-- the answer in the definition's terms
+unfoldable pub answer-of : Answered → Answer
+answer-of a = record { number = a .number; steps = a .steps; slots = a .slots; bindings = a .bindings; table-words = a .«table_words» }
+
+-- what is left to say when all is resolved: a log, the types of the image's slots, and how many slots there are
+pub record Resolved-run (w : List ℕ) (lay : Layout) (made : ℕ) (σ : Log) (types : List Ty) : Type 0 where
+  pub top : ℕ
+  pub inside : top ≤ length w
+  pub good : Good w (lay .lo) top σ
+  pub stand : Slots-stand w lay top types
+  pub first : lay .slots ≤ made
+  pub bound : made ≤ lay .lo
+  pub placed : lay .entries + lay .slots ≤ length w
+  pub small : length w < 2 ^ 32
+
+-- every slot's type, the made ones with them
+unfoldable pub all-types : Layout → ℕ → List Ty → List Ty
+all-types lay made types = types ++ made-types (lay .slots) made
+
+-- what `finish` asks: words that stand for a finished run, whose tables' length fits a word
+pub record Finish-asked (w : List ℕ) (lay : Layout) (made : ℕ) : Type 0 where
+  pub σ : Log
+  pub types : List Ty
+  pub resolved : Resolved-run w lay made σ types
+  pub few : length (tables-of (all-types lay made types) (binding-rows σ made)) < 2 ^ 32
+
+-- the contract of `finish`: the answer and the table words of the definition, 14 included
+pub record Finishes (w : List ℕ) (lay : Layout) (made steps : ℕ) (t t′ : List ℕ) (r : Answered) : Type 0 where
+  pub answers : (σ : Log) (types : List Ty) → Resolved-run w lay made σ types
+      → answer-of r ≡ with-tables (length t) steps (all-types lay made types) (binding-rows σ made) .answer
+  pub writes : (σ : Log) (types : List Ty) → Resolved-run w lay made σ types
+      → t′ ≡ put t 0 (with-tables (length t) steps (all-types lay made types) (binding-rows σ made) .tables)
