@@ -1,5 +1,5 @@
 -- What an image check that answers 0 has tested. Assumes nothing.
-use Prim.Native.Nat.{ℕ, suc, _≤_}
+use Prim.Native.Nat.{ℕ, suc, _+_, _*_, _≤_}
 use mathlib.Core.Path.{_≡_, refl}
 use mathlib.Core.Bool.{Bool, true, false}
 use mathlib.Core.List.{List}
@@ -56,3 +56,12 @@ check-passed img bytes budget work e =
       bodies = p₉;
       nesting = p₁₀;
     }
+
+-- and there are work words enough
+pub work-enough : (img bytes : List ℕ) (budget work : ℕ) → check img bytes budget work ≡ 0 → 8 * (length img + budget) ≤ work
+unfolding check work-fits
+work-enough img bytes budget work e =
+    let (p₁, e₁) = passes (image-fits img) 0 _ e in
+    let (p₂, e₂) = passes (names-fit bytes) 1 _ e₁ in
+    let (p₃, e₃) = passes (budget-fits budget) 2 _ e₂ in
+    leb-true _ _ (passes (work-fits img budget work) 3 _ e₃ .0)

@@ -27,7 +27,7 @@ starts g top stack = record { left = g .left; top = top; stack = stack; refused 
 abbrev pub walk-after : Walk → State → Walk
 walk-after g st = record { left = st .left; top = st .top; refused = st .refused; next = g .next; log = g .log; at = g .at }
 
-then-nothing : (o : Outcome Log) → and-then o done ≡ o
+pub then-nothing : (o : Outcome Log) → and-then o done ≡ o
 unfolding and-then
 then-nothing (done σ s) = refl
 then-nothing (refused r s σ) = refl
@@ -37,7 +37,7 @@ unfolding unify-all unify-equation
 one-equation reg σ s t u = then-nothing (unify σ s t u)
 
 -- the names log and the slots' types lie past what the unifier may need
-log-beyond : {img w : List ℕ} {lay : Layout} {g : Walk} → Solving img w lay g → (lay .stack + g .left ≤ lay .log) × (lay .log ≤ lay .entries)
+pub log-beyond : {img w : List ℕ} {lay : Layout} {g : Walk} → Solving img w lay g → (lay .stack + g .left ≤ lay .log) × (lay .log ≤ lay .entries)
 log-beyond s = let l = layout-at (s .prepared .is) in let n = s .fewer in (omega arith, omega arith)
 
 -- one equation is unified, after nodes were put that its step pays for

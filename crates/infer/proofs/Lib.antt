@@ -30,6 +30,16 @@ pub mod TypeNodes
 pub mod LaidOut
 pub mod Composing
 pub mod Equating
+pub mod Standing
+pub mod InstructionEquations
+pub mod FunctionEquations
+pub mod NameLogs
+pub mod Accessing
+pub mod Logging
+pub mod Patterns
+pub mod ApplyLaws
+pub mod ApplyLoops
+pub mod ApplyParts
 pub mod Sinks
 pub mod Emitting
 pub mod EmittedRows

@@ -27,6 +27,11 @@ module _ (img : List ℕ) where
   abbrev pub Identifier-at : ℕ → Type 0
   Identifier-at at = word img at < count Identifiers img
 
+  -- an identifier at a position of the image
+  pub record Place-fits (at : ℕ) : Type 0 where
+    pub inside : at < length img
+    pub identifier : Identifier-at at
+
   -- n words from a position on are identifiers
   pub record Identifiers-at (at n : ℕ) : Type 0 where
     pub inside : at + n ≤ length img

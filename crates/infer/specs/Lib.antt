@@ -15,7 +15,9 @@ pub mod Parts
 pub mod Naming
 pub mod Generating
 pub mod Standing
+pub mod Applying
 pub mod Writing
+pub mod Entry
 pub mod Compute
 pub mod Sketch
 pub mod Rows

@@ -1,11 +1,11 @@
 -- The names log as `generate` reads and writes it. Assumes nothing.
-use Prim.Native.Nat.{ℕ, _+_, _*_, _≤_, _<_}
+use Prim.Native.Nat.{ℕ, _+_, _≤_, _<_}
 use mathlib.Core.Path.{_≡_}
 use mathlib.Core.Bool.{Bool, true, false}
 use mathlib.Core.List.{List}
 use lib.ListN.{length}
 use lib.Dec.{eqb}
-use Rattle.image.specs.declared.Table.the-variants.{Names, Identifiers}
+use Rattle.image.specs.declared.Table.the-variants.{Identifiers}
 use Rattle.image.specs.Ty.{NONE}
 use Rattle.image.specs.Image.{count, cell}
 use Rattle.image.specs.Laid.{Laid, Names-inside}
@@ -16,6 +16,7 @@ use Rattle.unifier.specs.Lookup.{registry-of, key-name, Key-inside}
 use Rattle.unifier.specs.declared.property.Key.{Key}
 use Rattle.unifier.specs.declared.property.Key.the-variants.{String, Number}
 use Rattle.infer.specs.Equations.{Names-log, get-name, access, callee-shape}
+use Rattle.infer.specs.Fitting.{Item-fits}
 use Rattle.infer.specs.Running.{Logged, Ready}
 use Rattle.infer.specs.declared.layout.Layout.{Layout}
 use Rattle.infer.specs.declared.walk.Walk.{Walk}
@@ -69,3 +70,10 @@ pub record Logs-name (img w w′ : List ℕ) (g : Walk) (id source : ℕ) (r : W
   pub unnamed : cell Identifiers img source 1 ≡ NONE → (w′ ≡ w) × (r ≡ g)
   pub named : (cell Identifiers img source 1 ≡ NONE → ⊥) → (at w′ (g .log) ≡ id) × (at w′ (g .log + 1) ≡ cell Identifiers img source 1)
       × (r ≡ record { left = g .left; top = g .top; refused = g .refused; next = g .next; log = g .log + 2; at = g .at })
+
+-- what an item of a pattern asks: the identifier of the pattern's value, and an item
+pub record Element-asked (img bytes w : List ℕ) (lay : Layout) (stretch : ℕ) (g : Walk) (value place : ℕ) : Type 0 where
+  pub ready : Ready img bytes w lay stretch g
+  pub value-inside : value < count Identifiers img
+  pub inside : place + 3 ≤ length img
+  pub fits : Item-fits img place

@@ -1,5 +1,5 @@
 -- What the equations of an instruction or of a function ask besides. Assumes nothing.
-use Prim.Native.Nat.{ℕ, _+_, _*_, _≤_, _<_}
+use Prim.Native.Nat.{ℕ, _+_, _≤_, _<_}
 use mathlib.Core.Path.{_≡_}
 use mathlib.Core.Bool.{Bool}
 use mathlib.Core.List.{List, [], _∷_}
@@ -7,16 +7,12 @@ use lib.ListN.{length}
 use Rattle.image.specs.declared.Table.the-variants.{Functions}
 use Rattle.image.specs.Ty.{var, func, function-kind}
 use Rattle.image.specs.Image.{word, count, cell}
+use Rattle.image.specs.Laid.{Laid, Names-inside}
 use Rattle.unifier.specs.Unify.{_≐_}
-use Rattle.infer.specs.Fitting.{Identifier-at, Params-fit}
-use Rattle.infer.specs.Solving.{place-type, At-instruction, Solves}
+use Rattle.infer.specs.Fitting.{Identifier-at, Item-fits, Params-fit, Body-fits, Place-fits}
+use Rattle.infer.specs.Solving.{place-type, Solving, At-instruction, Solves}
 use Rattle.infer.specs.declared.layout.Layout.{Layout}
 use Rattle.infer.specs.declared.walk.Walk.{Walk}
-
--- an identifier at a position of the image
-pub record Place-fits (img : List ℕ) (at : ℕ) : Type 0 where
-  pub inside : at < length img
-  pub identifier : Identifier-at img at
 
 -- what `call` asks: a callee, and the kind of a Function
 pub record Call-asked (img w : List ℕ) (lay : Layout) (g : Walk) (at callee kind : ℕ) : Type 0 where
@@ -30,6 +26,20 @@ pub record Calls (img w w′ : List ℕ) (lay : Layout) (g : Walk) (at callee ki
   pub solves : (c : Bool) → kind ≡ function-kind c
       → Solves (place-type img callee ≐ func c shape (var (g .next)) ∷ place-type img (at + 1) ≐ var (g .next) ∷ []) 1 w w′ lay g r
 
+-- what `is_ref_attribute` asks: an item
+pub record Attribute-asked (img bytes : List ℕ) (at : ℕ) : Type 0 where
+  pub names : Names-inside img bytes
+  pub inside : at + 3 ≤ length img
+  pub fits : Item-fits img at
+
+-- what `param` asks: a parameter, and unless something was refused what a part asks
+pub record Param-asked (img w : List ℕ) (lay : Layout) (g : Walk) (at shape : ℕ) : Type 0 where
+  pub laid : Laid img
+  pub place : Place-fits img (at + 1)
+  pub own : lay .own + 30 < 4294967296
+  pub few : shape < 8
+  pub solving : g .refused ≡ 0 → Solving img w lay g
+
 -- what `component` asks: a body's parameters
 pub record Component-asked (img : List ℕ) (at : ℕ) : Type 0 where
   pub inside : at + 3 ≤ length img
@@ -39,4 +49,4 @@ pub record Component-asked (img : List ℕ) (at : ℕ) : Type 0 where
 pub record Function-asked (img : List ℕ) (f at : ℕ) : Type 0 where
   pub function : f < count Functions img
   pub body : at ≡ cell Functions img f 0
-  pub place : Place-fits img (at + 1)
+  pub fits : Body-fits img f at

@@ -1,5 +1,8 @@
 // The run.
+mod apply;
+mod instruction;
 mod layout;
+mod naming;
 mod tables;
 mod walk;
 

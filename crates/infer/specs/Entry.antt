@@ -1,0 +1,48 @@
+-- The contract of the exported entry: the three demands of document 01. Assumes nothing.
+use Prim.Native.Nat.{ℕ, zero, suc, _+_, _*_, _<_}
+use mathlib.Core.Path.{_≡_}
+use mathlib.Core.List.{List, _++_}
+use lib.ListN.{length, drop, replicate}
+use Rattle.image.specs.declared.Table.the-variants.{Slots}
+use Rattle.image.specs.Image.{count}
+use Rattle.image.specs.Check.{check}
+use Rattle.image.specs.Program.{program}
+use Rattle.unifier.specs.Work.{at}
+use Rattle.infer.specs.Infer.{Output, infer-types, output-of, infer}
+use Rattle.infer.specs.Rules.{Tables-sound, Run-number}
+use Rattle.infer.specs.Fitting.{Passed}
+use Rattle.infer.specs.Standing.{put, answer-of}
+use Rattle.infer.specs.declared.tables.Answer.{Answer as Answered}
+
+-- the first n words 0
+unfoldable pub cleared : ℕ → List ℕ → List ℕ
+cleared n w = replicate n 0 ++ drop n w
+
+-- the work words at exit: "work words end all zero once the image check has passed and are untouched before that"
+unfoldable pub work-after : ℕ → List ℕ → List ℕ
+work-after zero w = replicate (length w) 0
+work-after (suc n) w = w
+
+-- what `run` asks: an image that passed the check, as many work words as that takes, and no slot bound
+pub record Run-asked (img bytes : List ℕ) (budget : ℕ) (w : List ℕ) : Type 0 where
+  pub passed : Passed img bytes budget
+  pub long : length w ≡ 8 * (length img + budget)
+  pub unbound : (k : ℕ) → k < count Slots img + budget → at w k ≡ 0
+
+-- the promise of `run`: the definition's answer and table words
+pub record Runs (img bytes : List ℕ) (budget : ℕ) (w w′ t t′ : List ℕ) (r : Answered) : Type 0 where
+  pub answers : answer-of r ≡ output-of budget (length t) (infer-types (program img bytes) budget) .answer
+  pub writes : t′ ≡ put t 0 (output-of budget (length t) (infer-types (program img bytes) budget) .tables)
+  pub len : length w′ ≡ length w
+
+-- demand 3: a run is never stuck, and what holds of its tables
+pub record Never-stuck (img bytes : List ℕ) (o : Output) : Type 0 where
+  pub number : Run-number (o .answer .number)
+  pub tables : o .answer .number ≡ 0 → Tables-sound (program img bytes) o
+
+-- demands 1, 2 and 3: the answer is the definition's; its table words stand over what was lent, none in a refusal; the work words
+pub record Infers (img bytes : List ℕ) (budget : ℕ) (w w′ t t′ : List ℕ) (r : Answered) : Type 0 where
+  pub answers : answer-of r ≡ infer img bytes budget (length w) (length t) .answer
+  pub writes : t′ ≡ put t 0 (infer img bytes budget (length w) (length t) .tables)
+  pub clears : w′ ≡ work-after (check img bytes budget (length w)) w
+  pub sound : check img bytes budget (length w) ≡ 0 → Never-stuck img bytes (infer img bytes budget (length w) (length t))
