@@ -1,11 +1,13 @@
-"""Inputs with the answers of the reference model, in the format that src/corpus.rs describes.
+"""Inputs with the answers of the reference model, in the formats that src/corpus.rs and src/answers.rs describe.
 
     python3 host/data/corpus.py REFERENCE make              writes the corpus beside this file
     python3 host/data/corpus.py REFERENCE compare FILE..    holds the answers of files to the model's
+    python3 host/data/corpus.py REFERENCE answers FILE..    writes the whole run's answers beside each file
 
-REFERENCE is the folder of the reference model (model.py, generate.py).
+REFERENCE is the folder of the reference model (model.py, generate.py, rows.py).
 """
 
+import contextlib
 import os
 import random
 import struct
@@ -14,6 +16,7 @@ from collections import Counter
 
 NONE = 0xFFFFFFFF
 LIMIT = 65_536
+MOST_TABLES = 16_777_216
 
 
 def number(value):
@@ -143,6 +146,17 @@ def edges(rng, writer, generate, count):
         writer.whole(words, names, budget, enough(words, budget))
 
 
+def rows(writer):
+    """The reference's own rows, edges and mistakes."""
+    import rows as reference
+    checks = reference.Checks()
+    with contextlib.redirect_stdout(None):
+        for part in (reference.check_rows, reference.check_edges, reference.check_mistakes):
+            part(checks)
+    for row in checks.inputs:
+        writer.whole(row.words, row.name_bytes, row.budget, enough(row.words, row.budget))
+
+
 def make(model, generate):
     here = os.path.dirname(os.path.abspath(__file__))
     parts = {
@@ -151,6 +165,7 @@ def make(model, generate):
         "large": lambda rng, w: images(rng, w, generate, [1_000, 2_000, 4_000, 8_000, 16_000,
                                                           32_000, 65_536] * 2, 30),
         "edges": lambda rng, w: edges(rng, w, generate, 400),
+        "rows": lambda rng, w: rows(w),
     }
     for name, part in parts.items():
         writer = Writer(model.check)
@@ -174,8 +189,35 @@ def compare(model, files):
         print(path, sum(answers.values()), "agree", sorted(answers.items()))
 
 
+def sum_of(tables):
+    """FNV-1a, 64 bits, over the words."""
+    value = 0xCBF29CE484222325
+    for one in tables:
+        value = (value ^ one) * 0x100000001B3 % 2 ** 64
+    return value
+
+
+def answers(model, files):
+    for path in files:
+        out, counts = bytearray(), Counter()
+        with open(path, "rb") as file:
+            for words, names, budget, work, _ in read(file.read()):
+                answer = model.run(words, names, budget, work, MOST_TABLES)
+                counts[answer.number] += 1
+                out += number(answer.number)
+                if answer.number == 0 or answer.number > 10:
+                    out += number(answer.steps)
+                if answer.number == 0:
+                    for count in (answer.slots, answer.binds, answer.table_words):
+                        out += number(count)
+                    out += struct.pack("<Q", sum_of(answer.tables))
+        with open(os.path.splitext(path)[0] + ".answers", "wb") as file:
+            file.write(out)
+        print(path, len(out), "bytes", sorted(counts.items()))
+
+
 def main():
-    if len(sys.argv) < 3 or sys.argv[2] not in ("make", "compare"):
+    if len(sys.argv) < 3 or sys.argv[2] not in ("make", "compare", "answers"):
         sys.exit(__doc__)
     sys.path.insert(0, sys.argv[1])
     import generate
@@ -183,7 +225,7 @@ def main():
     if sys.argv[2] == "make":
         make(model, generate)
     else:
-        compare(model, sys.argv[3:])
+        (compare if sys.argv[2] == "compare" else answers)(model, sys.argv[3:])
 
 
 if __name__ == "__main__":

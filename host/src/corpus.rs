@@ -9,15 +9,27 @@
 
 use crate::image::{Case, Input};
 
-struct Reader<'a> {
+pub struct Reader<'a> {
     bytes: std::slice::Iter<'a, u8>,
 }
 
 impl Reader<'_> {
-    fn number(&mut self) -> u64 {
+    pub fn new(file: &[u8]) -> Reader<'_> {
+        Reader { bytes: file.iter() }
+    }
+
+    pub fn is_at_end(&self) -> bool {
+        self.bytes.as_slice().is_empty()
+    }
+
+    pub fn byte(&mut self) -> u8 {
+        *self.bytes.next().expect("a whole record")
+    }
+
+    pub fn number(&mut self) -> u64 {
         let mut number = 0;
         for shift in (0..).step_by(7) {
-            let digit = *self.bytes.next().expect("a whole record");
+            let digit = self.byte();
             number |= (digit as u64 & 127) << shift;
             if digit < 128 {
                 break;
@@ -37,14 +49,14 @@ impl Reader<'_> {
 
 /// The cases of a file, named by it and their number.
 pub fn read(name: &str, file: &[u8]) -> Vec<Case> {
-    let mut reader = Reader { bytes: file.iter() };
+    let mut reader = Reader::new(file);
     let (mut words, mut bytes) = (vec![], vec![]);
     let mut cases = vec![];
-    while !reader.bytes.as_slice().is_empty() {
+    while !reader.is_at_end() {
         let (mut image, mut names);
         if reader.number() == 0 {
             words = (0..reader.count()).map(|_| reader.word()).collect::<Vec<u32>>();
-            bytes = (0..reader.count()).map(|_| *reader.bytes.next().expect("a whole record")).collect();
+            bytes = (0..reader.count()).map(|_| reader.byte()).collect();
             (image, names) = (words.clone(), bytes.clone());
         } else {
             (image, names) = (words.clone(), bytes.clone());

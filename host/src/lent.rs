@@ -1,4 +1,4 @@
-//! Memory to lend: read-only where it is lent, between pages that can't be touched.
+//! Memory to lend: read-only or to be written to, between pages that can't be touched.
 
 use std::ffi::{c_char, c_void};
 use std::ptr;
@@ -39,6 +39,18 @@ pub struct Memory {
     length: usize,
 }
 
+/// Maps pages; the place is null, or in pages that nothing else knows.
+unsafe fn map(place: *mut u8, length: usize, protection: i32, flags: i32, file: i32) -> *mut u8 {
+    let mapped = mmap(place as *mut c_void, length, protection, flags, file, 0);
+    assert_ne!(mapped as isize, -1, "no memory");
+    mapped as *mut u8
+}
+
+/// A place for so many bytes of whole pages, with a closed page before and after it; closed itself so far.
+unsafe fn place(length: usize) -> *mut u8 {
+    map(ptr::null_mut(), length + 2 * PAGE, PROT_NONE, MAP_PRIVATE | MAP_ANONYMOUS, -1).add(PAGE)
+}
+
 impl Memory {
     /// At least so many bytes.
     pub fn new(bytes: usize) -> Memory {
@@ -47,14 +59,8 @@ impl Memory {
         unsafe {
             let file = memfd_create(c"lent".as_ptr(), 0);
             assert!(file >= 0 && ftruncate(file, length as i64) == 0, "no memory");
-            let map = |place: *mut u8, length, protection, flags, file| {
-                let mapped = mmap(place as *mut c_void, length, protection, flags, file, 0);
-                assert_ne!(mapped as isize, -1, "no memory");
-                mapped as *mut u8
-            };
             let writable = map(ptr::null_mut(), length, PROT_READ | PROT_WRITE, MAP_SHARED, file);
-            let closed = map(ptr::null_mut(), length + 2 * PAGE, PROT_NONE, MAP_PRIVATE | MAP_ANONYMOUS, -1);
-            let lent = map(closed.add(PAGE), length, PROT_READ, MAP_SHARED | MAP_FIXED, file);
+            let lent = map(place(length), length, PROT_READ, MAP_SHARED | MAP_FIXED, file);
             Memory { writable, lent, length }
         }
     }
@@ -74,5 +80,35 @@ impl Memory {
             ptr::copy_nonoverlapping(data.as_ptr(), self.writable.add(at) as *mut T, data.len());
             self.lent.add(at) as *const T
         }
+    }
+}
+
+/// Words to lend and to be written to.
+pub struct Words {
+    words: &'static mut [u32],
+}
+
+impl Words {
+    /// How many words before the lent ones are held too.
+    const BEFORE: usize = PAGE / 4;
+
+    /// At most so many words can be lent.
+    pub fn new(most: usize) -> Words {
+        let length = (4 * (most + Words::BEFORE)).div_ceil(PAGE) * PAGE;
+        // SAFETY: new pages, which nothing else knows and which stay mapped.
+        let words = unsafe {
+            let pages = PROT_READ | PROT_WRITE;
+            let start = map(place(length), length, pages, MAP_PRIVATE | MAP_ANONYMOUS | MAP_FIXED, -1);
+            std::slice::from_raw_parts_mut(start as *mut u32, length / 4)
+        };
+        Words { words }
+    }
+
+    /// The words before those that are lent and the lent words, so many, at the end of the memory; all hold this.
+    pub fn hold(&mut self, lent: usize, held: u32) -> (&mut [u32], &mut [u32]) {
+        let from = self.words.len() - lent - Words::BEFORE;
+        let words = &mut self.words[from..];
+        words.fill(held);
+        words.split_at_mut(Words::BEFORE)
     }
 }

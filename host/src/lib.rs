@@ -1,7 +1,9 @@
 //! What the tests of the proved libraries share.
 
+pub mod answers;
 pub mod corpus;
 pub mod damage;
+pub mod deep;
 pub mod edges;
 pub mod generate;
 pub mod hostile;
@@ -9,3 +11,4 @@ pub mod image;
 pub mod lent;
 pub mod plain;
 pub mod random;
+pub mod report;

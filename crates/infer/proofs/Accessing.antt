@@ -40,6 +40,7 @@ use Rattle.infer.specs.declared.layout.Layout.{Layout}
 use Rattle.infer.specs.declared.walk.Walk.{Walk}
 use Rattle.infer.proofs.PositionLaws.{item-id-at, slot-is, name-is}
 use Rattle.infer.proofs.PositionsBody.{checked}
+use Rattle.infer.proofs.InstructionEquations.{get-type-at}
 use Rattle.infer.proofs.Composing.{Layout-at, layout-at, refuses-as, spent-walk, with-next, logged-same, generates-of, generates-same, generates-made, generates-spent, object-rep}
 use Rattle.infer.proofs.Equating.{starts, walk-after, then-nothing, log-beyond}
 
@@ -62,17 +63,6 @@ layout-inside f l = omega (arith, l .table Slots, l .table Types, l .table Lists
 
 pub entries-inside : {img w : List ℕ} {lay : Layout} {g : Walk} → Solving img w lay g → lay .entries ≤ length w
 entries-inside s = let e = layout-inside (layout-at (s .prepared .is)) (s .laid) in let n = s .prepared .long in omega arith
-
--- a slot that is made fits a word
-pub next-fits : {img w : List ℕ} {lay : Layout} {g : Walk} → Solving img w lay g → (g .left ≡ 0 → ⊥) → g .next + 1 < 4294967296
-next-fits s z =
-    let f = layout-at (s .prepared .is) in
-    let n = s .slots in
-    let b = s .prepared .begun in
-    let h = s .room .heap in
-    let d = s .room .hand in
-    let m = s .room .small in
-    omega arith
 
 -- what `equal` asks
 pub equal-asked : {img w : List ℕ} {lay : Layout} {g : Walk} {a b : ℕ} {t u : Ty} → Solving img w lay g → Rep w (lay .lo) (g .top) a t → Rep w (lay .lo) (g .top) b u → Equal-asked w lay g a b
@@ -200,8 +190,7 @@ module _ {img bytes w : List ℕ} {lay : Layout} {stretch : ℕ} {g : Walk} {pla
   lvalue-asked = let i = words-inside .0 in (a .ready .solving .laid, omega arith, a .fits .lvalue)
 
   pub left-is : get-type (program img bytes) (word img (place + 1)) ≡ place-type img (place + 1)
-  unfolding get-type place-type
-  left-is = ap var (slot-is img bytes (word img (place + 1)) (a .fits .lvalue))
+  left-is = get-type-at img bytes (place + 1) (a .fits .lvalue)
 
   -- its first item
   pub first-inside : word img (place + 5) < count Identifiers img
@@ -218,8 +207,7 @@ module _ {img bytes w : List ℕ} {lay : Layout} {stretch : ℕ} {g : Walk} {pla
   first-is = let m = a .many in item-id-at img place 0 (omega arith) ∙ ap (word img) (omega arith)
 
   pub first-type : get-type (program img bytes) (item-id (instruction-at img place) 0) ≡ place-type img (place + 5)
-  unfolding get-type place-type
-  first-type = ap (get-type (program img bytes)) first-is ∙ ap var (slot-is img bytes (word img (place + 5)) first-inside)
+  first-type = ap (get-type (program img bytes)) first-is ∙ get-type-at img bytes (place + 5) first-inside
 
   -- PropertyLoad
   module _ (z : word img place ≡ 23) where

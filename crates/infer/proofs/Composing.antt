@@ -438,6 +438,10 @@ module _ {img w : List ℕ} {lay : Layout} {g : Walk} (s : Solving img w lay g) 
   pub made-rep : (g .left ≡ 0 → ⊥) → Rep w (lay .lo) (g .top) (g .next) (var (g .next))
   made-rep z = let h = s .slots in rep-var {n = g .next} (omega arith) refl
 
+  -- its number, and the one after it, fit a word
+  pub next-fits : (g .left ≡ 0 → ⊥) → g .next + 1 < 4294967296
+  next-fits z = let l = s .slots in let f = layout-at (s .prepared .is) in omega (arith, own-fits)
+
   -- the Var of the identifier at a position
   pub place-rep : (k : ℕ) → word img k < count Identifiers img → Rep w (lay .lo) (g .top) (cell Identifiers img (word img k) 0) (place-type img k)
   unfolding place-type

@@ -12,7 +12,8 @@ use Rattle.unifier.specs.Log.{Log}
 use Rattle.unifier.specs.Work.{at, Rep, Good}
 use Rattle.unifier.proofs.Frames.{rep-same, rep-low, good-same}
 use Rattle.infer.specs.Tables.{made-types, binding-rows, written-binding, tables-of}
-use Rattle.infer.specs.Standing.{put, answer-of, Resolved-run, all-types, Finishes}
+use Rattle.infer.specs.Lent.{put, answer-of}
+use Rattle.infer.specs.Standing.{Resolved-run, all-types, Finishes}
 use Rattle.infer.specs.Infer.{refusal, with-tables}
 use Rattle.infer.specs.Writing.{Sink, counting, Row, Asks-row, Emits-row, Asks-bindings, Emits-bindings, Counts, Writes}
 use Rattle.infer.specs.declared.layout.Layout.{Layout}

@@ -246,13 +246,6 @@ module _ {img w : List ℕ} {lay : Layout} {g : Walk} {at callee kind : ℕ} (h 
   made-low : g .next < lay .lo
   made-low = let l = h .instruction .solving .slots in omega arith
 
-  pub made-fits : g .next + 1 < 4294967296
-  made-fits =
-      let s = h .instruction .solving in
-      let l = made-low in
-      let f = layout-at (s .prepared .is) in
-      omega (arith, own-fits s)
-
   module _ {a : ℕ} (e : a ≡ cell Identifiers img (word img callee) 0) where
     callee-stands : {shape : ℕ} (c : Bool) → kind ≡ function-kind c → Stand-made w lay g a kind shape (g .next) (place-type img callee) (func c shape (var (g .next)))
     callee-stands c q = function-stands c (h .instruction .solving) q made-low (place-stands callee (h .callee-fits .identifier) e) (var-stands made-low)

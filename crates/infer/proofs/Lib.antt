@@ -40,7 +40,14 @@ pub mod Patterns
 pub mod ApplyLaws
 pub mod ApplyLoops
 pub mod ApplyParts
+pub mod KindTable
+pub mod Dispatch
+pub mod Loops
+pub mod Cycle
 pub mod Sinks
 pub mod Emitting
 pub mod EmittedRows
 pub mod Finishing
+pub mod EntryLaws
+pub mod WholeRun
+pub mod EntryWords

@@ -1,8 +1,8 @@
 -- The contract of the exported entry: the three demands of document 01. Assumes nothing.
-use Prim.Native.Nat.{ℕ, zero, suc, _+_, _*_, _<_}
+use Prim.Native.Nat.{ℕ, _+_, _*_, _<_}
 use mathlib.Core.Path.{_≡_}
-use mathlib.Core.List.{List, _++_}
-use lib.ListN.{length, drop, replicate}
+use mathlib.Core.List.{List}
+use lib.ListN.{length}
 use Rattle.image.specs.declared.Table.the-variants.{Slots}
 use Rattle.image.specs.Image.{count}
 use Rattle.image.specs.Check.{check}
@@ -11,17 +11,8 @@ use Rattle.unifier.specs.Work.{at}
 use Rattle.infer.specs.Infer.{Output, infer-types, output-of, infer}
 use Rattle.infer.specs.Rules.{Tables-sound, Run-number}
 use Rattle.infer.specs.Fitting.{Passed}
-use Rattle.infer.specs.Standing.{put, answer-of}
+use Rattle.infer.specs.Lent.{put, answer-of, work-after}
 use Rattle.infer.specs.declared.tables.Answer.{Answer as Answered}
-
--- the first n words 0
-unfoldable pub cleared : ℕ → List ℕ → List ℕ
-cleared n w = replicate n 0 ++ drop n w
-
--- the work words at exit: "work words end all zero once the image check has passed and are untouched before that"
-unfoldable pub work-after : ℕ → List ℕ → List ℕ
-work-after zero w = replicate (length w) 0
-work-after (suc n) w = w
 
 -- what `run` asks: an image that passed the check, as many work words as that takes, and no slot bound
 pub record Run-asked (img bytes : List ℕ) (budget : ℕ) (w : List ℕ) : Type 0 where

@@ -5,6 +5,7 @@ pub mod Visits
 pub mod Tables
 pub mod Infer
 pub mod Rules
+pub mod Lent
 pub mod Position
 pub mod Fitting
 pub mod Layout

@@ -1,13 +1,14 @@
--- What the work words stand for once the equations are unified: the slots' types and the bindings, and how they are written. Assumes nothing.
+-- What the work words stand for once the equations are unified, and the contract of `finish`. Assumes nothing.
 use Prim.Native.Nat.{ℕ, _+_, _≤_, _<_, _^_}
 use mathlib.Core.Path.{_≡_}
 use mathlib.Core.List.{List, _++_}
-use lib.ListN.{length, getD, take, drop}
+use lib.ListN.{length, getD}
 use Rattle.image.specs.Ty.{Ty, poly}
 use Rattle.unifier.specs.Log.{Log}
 use Rattle.unifier.specs.Work.{at, Rep, Good}
 use Rattle.infer.specs.Tables.{made-types, binding-rows, tables-of}
-use Rattle.infer.specs.Infer.{Answer, with-tables}
+use Rattle.infer.specs.Infer.{with-tables}
+use Rattle.infer.specs.Lent.{put, answer-of}
 use Rattle.infer.specs.declared.layout.Layout.{Layout}
 use Rattle.infer.specs.declared.tables.Answer.{Answer as Answered}
 
@@ -15,14 +16,6 @@ use Rattle.infer.specs.declared.tables.Answer.{Answer as Answered}
 pub record Slots-stand (w : List ℕ) (lay : Layout) (top : ℕ) (types : List Ty) : Type 0 where
   pub many : length types ≡ lay .slots
   pub each : (k : ℕ) → k < lay .slots → Rep w (lay .lo) top (at w (lay .entries + k)) (getD types k poly)
-
--- words put over a list's from a position on
-unfoldable pub put : List ℕ → ℕ → List ℕ → List ℕ
-put t from ws = take from t ++ (ws ++ drop (from + length ws) t)
-
--- the answer in the definition's terms
-unfoldable pub answer-of : Answered → Answer
-answer-of a = record { number = a .number; steps = a .steps; slots = a .slots; bindings = a .bindings; table-words = a .«table_words» }
 
 -- what is left to say when all is resolved: a log, the types of the image's slots, and how many slots there are
 pub record Resolved-run (w : List ℕ) (lay : Layout) (made : ℕ) (σ : Log) (types : List Ty) : Type 0 where

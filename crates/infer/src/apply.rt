@@ -9,6 +9,7 @@ ghost use Rattle.infer.specs.Position.{after-phis, after-instructions, t
 ghost use Rattle.infer.specs.Fitting.{Identifiers-at, Instruction-fits, Instruction-of-fits, Instructions-fit, Phis-fit, Block-fits, Blocks-fit, Place-fits};
 ghost use Rattle.infer.specs.Applying.{Applying, Applies, Passing, Applies-next, Applies-to, Item-of-fits, place-visits, item-visits-at, items-visits-at, context-visits-at, phis-visits-at, inner-visits, nested-visits-at, instruction-visits-at, instructions-visits-at, block-visits-at, blocks-visits-at};
 use crate::layout::Layout;
+use crate::walk::after_rows;
 use crate::walk::slot_at;
 use image::Table;
 use image::cell;
@@ -21,14 +22,6 @@ pub struct Pass {
     pub top: u32,
     pub refused: u32,
     pub at: usize,
-}
-
-// Where rows of so many words end; their count stands at a position, before the first.
-fn after_rows(img: &[u32], at: usize, width: usize) -> usize
-    requires { ⌜ at + 1 + width * word (now img) at ≤ length (now img) ⌝ }
-    ensures { λ r. ⌜ r ≡ at + 1 + width * word (now (img .entry)) at ⌝ }
-{
-    at + 1 + width * img[at] as usize
 }
 
 // The slot of the identifier at a position. What was refused stays refused: the parts below read on, and resolve nothing.

@@ -1,9 +1,113 @@
-// The run.
+// The run: from image check to tables.
+ghost use mathlib.Core.Path.{_≡_};
+ghost use Prim.Native.Nat.{_≤_};
+ghost use lib.ListN.{length};
+ghost use Rattle.infer.specs.Infer.{refusal as refusal-of};
+ghost use Rattle.infer.specs.Lent.{answer-of, cleared};
+ghost use Rattle.infer.specs.Entry.{Run-asked, Runs, Infers};
+
 mod apply;
+mod generate;
 mod instruction;
 mod layout;
 mod naming;
 mod tables;
 mod walk;
 
+use apply::Pass;
+use image::Table;
+use image::count;
 pub use tables::Answer;
+use walk::Walk;
+
+fn refusal(number: u32, steps: u32) -> Answer
+    ensures { λ r. ⌜ answer-of r ≡ refusal-of number steps 0 .answer ⌝ }
+{
+    Answer {
+        number,
+        steps,
+        slots: 0,
+        bindings: 0,
+        table_words: 0,
+    }
+}
+
+// The first n words are 0 then.
+fn clear(w: &mut [u32], n: usize)
+    requires { ⌜ n ≤ length (now w) ⌝ }
+    ensures { λ _. ⌜ now (w .exit) ≡ cleared n (now (w .entry)) ⌝ }
+{
+    for k in 0..n {
+        w[k] = 0;
+    }
+}
+
+// Everything after the check, in as many work words as it takes, those of the bindings 0.
+fn run(img: &[u32], bytes: &[u8], budget: u32, w: &mut [u32], tables: &mut [u32]) -> Answer
+    requires { ⌜ Run-asked (now img) (now bytes) budget (now w) ⌝ }
+    ensures { λ r. ⌜ Runs (now (img .entry)) (now (bytes .entry)) budget (now (w .entry)) (now (w .exit)) (now (tables .entry)) (now (tables .exit)) r ⌝ }
+{
+    let lay = layout::lay_out(img, w, budget);
+    let next = lay.slots;
+    let start = lay.top;
+    let log = lay.log;
+    let g = generate::generate(
+        img,
+        bytes,
+        w,
+        lay,
+        Walk {
+            left: budget,
+            top: start,
+            refused: 0,
+            next,
+            log,
+            at: 0,
+        },
+    );
+    let left = g.left;
+    let number = g.refused;
+    if number != 0 {
+        return refusal(number, budget - left);
+    }
+    let top = g.top;
+    let a = apply::apply(
+        img,
+        w,
+        lay,
+        Pass {
+            left,
+            top,
+            refused: 0,
+            at: 0,
+        },
+    );
+    let after = a.left;
+    let again = a.refused;
+    if again != 0 {
+        return refusal(again, budget - after);
+    }
+    tables::finish(w, lay, budget - after, g.next, tables)
+}
+
+// The image check, and then the run.
+#[no_mangle]
+pub extern "C" fn infer_types(
+    image: &[u32],
+    names: &[u8],
+    budget: u32,
+    work: &mut [u32],
+    tables: &mut [u32],
+) -> Answer
+    ensures { λ r. ⌜ Infers (now (image .entry)) (now (names .entry)) budget (now (work .entry)) (now (work .exit)) (now (tables .entry)) (now (tables .exit)) r ⌝ }
+{
+    let number = image::check(image, names, budget, work.len());
+    if number != 0 {
+        return refusal(number, 0);
+    }
+    clear(work, count(image, Table::Slots) as usize + budget as usize);
+    let need = 8 * (image.len() + budget as usize);
+    let answer = run(image, names, budget, &mut work[..need], tables);
+    clear(work, work.len());
+    answer
+}

@@ -1,6 +1,6 @@
 // The state of generate, and one equation at a time.
 ghost use mathlib.Core.Path.{_≡_};
-ghost use Prim.Native.Nat.{_+_, _*_, _<_};
+ghost use Prim.Native.Nat.{_+_, _*_, _≤_, _<_};
 ghost use lib.ListN.{length};
 ghost use Rattle.image.specs.Image.{word, count, cell};
 ghost use Rattle.image.specs.Laid.{Laid};
@@ -73,6 +73,14 @@ pub fn slot_at(img: &[u32], at: usize) -> u32
 {
     let slot = image::slot_of(img, IdentifierId(img[at]));
     slot.0
+}
+
+// Where rows of so many words end; their count stands at a position, before the first.
+pub fn after_rows(img: &[u32], at: usize, width: usize) -> usize
+    requires { ⌜ at + 1 + width * word (now img) at ≤ length (now img) ⌝ }
+    ensures { λ r. ⌜ r ≡ at + 1 + width * word (now (img .entry)) at ⌝ }
+{
+    at + 1 + width * img[at] as usize
 }
 
 // The node of the Object of a shape below 8.

@@ -7,9 +7,9 @@
 use host::image::{Case, Input};
 use host::lent::{Memory, Side};
 use host::random::Random;
-use host::{corpus, damage, edges, generate, hostile, plain};
+use host::report::{fail, row};
+use host::{corpus, damage, edges, generate, hostile, plain, report};
 use std::slice;
-use std::sync::atomic::{AtomicPtr, Ordering};
 use std::time::Duration;
 
 #[link(name = "image", kind = "static")]
@@ -25,50 +25,12 @@ extern "C" {
 }
 
 extern "C" {
-    fn signal(number: i32, handler: extern "C" fn(i32)) -> usize;
-    fn alarm(seconds: u32) -> u32;
     fn clock() -> i64;
 }
 
-/// SIGILL, SIGBUS, SIGFPE, SIGSEGV, SIGALRM.
-const FAULTS: [i32; 5] = [4, 7, 8, 11, 14];
-
 /// A hostile image may take the processor so long.
 const MOST_TIME: Duration = Duration::from_secs(1);
-/// No check is waited for longer than so many seconds.
-const MOST_SECONDS: u32 = 60;
-
 const GENERATED: u32 = 200_000;
-const DIFFERENCE: &str = "difference.corpus"; // beside the program
-
-/// The case that is being checked, for the message of a fault.
-static CURRENT: AtomicPtr<Case> = AtomicPtr::new(std::ptr::null_mut());
-
-extern "C" fn on_fault(number: i32) {
-    // SAFETY: set from a case that lives while it is checked.
-    if let Some(case) = unsafe { CURRENT.load(Ordering::Relaxed).as_ref() } {
-        fail(&format!("signal {number} during the check"), case);
-    }
-    std::process::exit(2);
-}
-
-/// Prints the case, leaves it in a file and ends the program.
-fn fail(what: &str, case: &Case) -> ! {
-    let Input { image, names, budget, work } = &case.input;
-    println!("FAILED: {}: {what}, expected {}", case.name, case.expected);
-    println!("{} words, {} name bytes, budget {budget}, work {work}", image.len(), names.len());
-    if image.len() <= 2_000 {
-        println!("image {image:?}\nnames {names:?}");
-    }
-    let mut file = vec![];
-    corpus::write(&mut file, case);
-    let path = std::env::current_exe().unwrap_or_default().with_file_name(DIFFERENCE);
-    match std::fs::write(&path, file) {
-        Ok(()) => println!("to run it alone: check_tests --only {}", path.display()),
-        Err(error) => println!("{} can't be written: {error}", path.display()),
-    }
-    std::process::exit(1);
-}
 
 fn processor_time() -> Duration {
     // SAFETY: gives a number of microseconds.
@@ -103,14 +65,12 @@ impl Tests {
 
     /// Compares the answers at both sides of the memory with the expected one; gives the longer time.
     fn compare(&mut self, case: &Case) -> Duration {
-        CURRENT.store(case as *const Case as *mut Case, Ordering::Relaxed);
         let mut longest = Duration::ZERO;
         for (side, fill) in [(Side::End, 0), (Side::Start, 0xFF)] {
-            // SAFETY: asks for a signal, which is handled.
-            unsafe { alarm(MOST_SECONDS) };
+            report::start(case);
             let (answer, time) = self.ask(case, side, fill);
             if answer != case.expected {
-                fail(&format!("answer {answer} at the {side:?}"), case);
+                fail(&format!("answer {answer} at the {side:?}, expected {}", case.expected), case);
             }
             longest = longest.max(time);
         }
@@ -125,10 +85,6 @@ impl Tests {
             *total += std::mem::take(count);
         }
     }
-}
-
-fn row(counts: &[u64]) -> String {
-    counts.iter().map(|count| format!("{count:>8}")).collect()
 }
 
 /// A case that expects the plain check's answer.
@@ -239,10 +195,7 @@ fn main() {
     let arguments: Vec<String> = std::env::args().skip(1).collect();
     let (words, bytes) = (Memory::new(4 * 65_537), Memory::new(65_537));
     let mut tests = Tests { words, bytes, counts: [0; 11], total: [0; 11] };
-    for number in FAULTS {
-        // SAFETY: the handler only reports and exits.
-        unsafe { signal(number, on_fault) };
-    }
+    report::watch();
     match arguments.iter().map(String::as_str).collect::<Vec<_>>()[..] {
         ["--write", path, count] => write(path, count.parse().expect("a count")),
         ["--only", ..] => run_corpus(&mut tests, &arguments[1..]),

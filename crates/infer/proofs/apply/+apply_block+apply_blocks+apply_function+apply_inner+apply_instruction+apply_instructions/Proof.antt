@@ -31,7 +31,7 @@ use Rattle.infer.proofs.apply.apply_instructions.Reads as apply-instruc
 use Rattle.infer.proofs.apply.apply_instructions.Kinds as apply-instructions-kinds
 use Rattle.infer.proofs.apply.+apply_block+apply_blocks+apply_function+apply_inner+apply_instruction+apply_instructions.Lts-apply_instructions as apply-instructions-lts
 use Rattle.image.proofs.cell.Reads as cell-reads
-use Rattle.infer.proofs.apply.after_rows.Reads as after-rows-reads
+use Rattle.infer.proofs.walk.after_rows.Reads as after-rows-reads
 use Rattle.infer.proofs.apply.apply_context.Reads as apply-context-reads
 use Rattle.infer.proofs.apply.apply_items.Reads as apply-items-reads
 use Rattle.infer.proofs.apply.apply_phis.Reads as apply-phis-reads

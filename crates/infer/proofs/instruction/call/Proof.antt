@@ -1,8 +1,8 @@
 use borrow.Author.Needs.{needs}
 use native.Mathlib.Omega.{arith}
-use Rattle.infer.proofs.Composing.{solves-spent}
+use Rattle.infer.proofs.Composing.{solves-spent, next-fits}
 use Rattle.infer.proofs.Standing.{instruction-low, lvalue-asks}
-use Rattle.infer.proofs.InstructionEquations.{call-asks, made-fits, call-asks-on, calls}
+use Rattle.infer.proofs.InstructionEquations.{call-asks, call-asks-on, calls}
 use Rattle.infer.proofs.instruction.call.Statement.{statement}
 use Rattle.infer.proofs.instruction.call.Tie as tie
 
@@ -22,7 +22,7 @@ call-spec =
     (λ c. record { solves = λ k e. solves-spent (c .before .if1 .taken) (c .spent .ensures) })
     (λ c κs. let p = c .before .before .before .before .pre in (p .instruction .solving .laid, p .callee-fits .inside, p .callee-fits .identifier))
     (λ c κs. call-asks (c .before .before .before .before .before .pre) (c .before .before .if1 .left) (c .slot-at .ensures))
-    (λ c. let d = c .before .before .before .before .before in omega (arith, made-fits (d .before .before .before .pre) (d .if1 .left)))
+    (λ c. let d = c .before .before .before .before .before in omega (arith, next-fits (d .before .before .before .pre .instruction .solving) (d .if1 .left)))
     (λ c. omega (arith, instruction-low (c .before .before .before .before .before .before .before .before .before .pre .instruction)))
     (λ c κs. lvalue-asks (c .before .before .before .before .before .before .before .before .before .pre .instruction))
     equal-requires

@@ -1,6 +1,7 @@
 use native.Mathlib.Omega.{arith}
 use borrow.Author.Needs.{needs}
-use Rattle.infer.proofs.Accessing.{next-fits, words-inside, store-asked, store-generates, store-spent}
+use Rattle.infer.proofs.Composing.{next-fits}
+use Rattle.infer.proofs.Accessing.{words-inside, store-asked, store-generates, store-spent}
 use Rattle.infer.proofs.naming.property_store.Statement.{statement}
 use Rattle.infer.proofs.naming.property_store.Tie as tie
 

@@ -1,0 +1,56 @@
+-- The output of the whole run by what its parts come to, and what it starts from. Assumes nothing.
+use Prim.Native.Nat.{ℕ, _-_, _≤_, _<_}
+use mathlib.Core.Path.{_≡_, refl, sym, ap}
+use mathlib.Core.List.{List, [], _++_}
+use lib.ListN.{length}
+use Rattle.image.specs.Ty.{Ty}
+use Rattle.image.specs.Image.{outermost}
+use Rattle.image.specs.Program.{Program, program, from-outermost}
+use Rattle.unifier.specs.Log.{Log, lookup}
+use Rattle.unifier.specs.Outcome.{done, refused, Refusal, number-of, and-then}
+use Rattle.unifier.specs.Unify.{unify-all}
+use Rattle.unifier.specs.Lookup.{registry-of}
+use Rattle.unifier.specs.Work.{at, Good, unbound}
+use Rattle.infer.specs.Generate.{generate}
+use Rattle.infer.specs.Generating.{generate-for}
+use Rattle.infer.specs.Visits.{visits, resolve-identifiers}
+use Rattle.infer.specs.Tables.{made-types}
+use Rattle.infer.specs.Infer.{registry, infer-types, refusal, output-of}
+use Rattle.infer.specs.Lent.{put}
+
+module _ (p : Program) (budget : ℕ) where
+  -- the output where the equations are refused
+  pub equations-refused : (lent : ℕ) {r : Refusal} {s : ℕ} {σ : Log} → unify-all (registry p) [] budget (generate p .equations) ≡ refused r s σ → output-of budget lent (infer-types p budget) ≡ refusal (number-of r) (budget - s) 0
+  unfolding infer-types output-of and-then
+  equations-refused lent e = rw e
+
+  -- the output where a visit is refused
+  pub visits-refused : (lent : ℕ) {σ : Log} {s : ℕ} {r : Refusal} {s₁ : ℕ} {τ : Log} → unify-all (registry p) [] budget (generate p .equations) ≡ done σ s → resolve-identifiers σ s (p .entries) (visits p) ≡ refused r s₁ τ → output-of budget lent (infer-types p budget) ≡ refusal (number-of r) (budget - s₁) 0
+  unfolding infer-types output-of and-then
+  visits-refused lent e q = rw (e, infer-types, q)
+
+  -- a run that is done
+  pub run-done : {σ : Log} {s : ℕ} {types : List Ty} {s₁ : ℕ} → unify-all (registry p) [] budget (generate p .equations) ≡ done σ s → resolve-identifiers σ s (p .entries) (visits p) ≡ done types s₁
+      → infer-types p budget ≡ done (record { log = σ; types = types ++ made-types (length (p .entries)) (generate p .slots) }) s₁
+  unfolding infer-types and-then
+  run-done e q = rw (e, infer-types, q) refl
+
+-- words that are all 0 stand for no binding
+pub good-none : (w : List ℕ) (lo top : ℕ) → lo ≤ top → ((k : ℕ) → k < lo → at w k ≡ 0) → Good w lo top []
+unfolding lookup
+good-none w lo top l z = record { nodes = l; binds = λ s h. unbound (z s h) }
+
+-- what the unifier knows of an image's program
+pub registry-is : (img bytes : List ℕ) → registry-of img bytes ≡ registry (program img bytes)
+unfolding registry-of registry program
+registry-is img bytes = refl
+
+-- the outermost function gives what the program does
+pub outermost-gives : (img bytes : List ℕ) {k : ℕ} → length (program img bytes .entries) ≡ k → generate-for (program img bytes) 0 k ≡ generate (program img bytes)
+unfolding generate-for generate from-outermost program outermost
+outermost-gives img bytes e = ap (generate-for (program img bytes) 0) (sym e)
+
+-- no words put over a list's
+pub put-none : (t : List ℕ) → put t 0 [] ≡ t
+unfolding put
+put-none t = refl

@@ -1,0 +1,261 @@
+-- The parts of `run` one after another: what each leaves is what the next asks, and what they come to. Assumes nothing.
+use Prim.Native.Nat.{ℕ, _+_, _-_, _^_, _≤_, _<_}
+use native.Mathlib.Omega.{arith}
+use mathlib.Core.Path.{_≡_, refl, sym, ap, ap₂, subst, _∙_}
+use mathlib.Core.List.{List, [], _++_}
+use lib.ListN.{length}
+use Rattle.image.specs.Ty.{Ty}
+use Rattle.image.specs.declared.Table.the-variants.{Slots, Types, Lists}
+use Rattle.image.specs.Image.{count, cell}
+use Rattle.image.specs.Laid.{Laid}
+use Rattle.image.specs.Program.{Program, program}
+use Rattle.image.proofs.Checked.{laid, identifier-slot, slot-type}
+use Rattle.image.proofs.CheckPassed.{Checked-image}
+use Rattle.unifier.specs.Log.{Log}
+use Rattle.unifier.specs.Outcome.{done}
+use Rattle.unifier.specs.Property.{Registry}
+use Rattle.unifier.specs.Lookup.{registry-of}
+use Rattle.unifier.specs.Unify.{unify-all}
+use Rattle.unifier.specs.Work.{at, Good, Room}
+use Rattle.unifier.proofs.Frames.{good-same}
+use Rattle.infer.specs.Equations.{Generated}
+use Rattle.infer.specs.Generate.{generate}
+use Rattle.infer.specs.Generating.{generate-for}
+use Rattle.infer.specs.Visits.{visits, resolve-identifiers}
+use Rattle.infer.specs.Tables.{made-types, binding-rows, tables-of}
+use Rattle.infer.specs.Infer.{registry, infer-types, refusal, output-of, with-tables}
+use Rattle.infer.specs.Layout.{Prepared, Lays-out}
+use Rattle.infer.specs.Running.{none-logged, Ready, Ran, Generates}
+use Rattle.infer.specs.Lent.{put, answer-of}
+use Rattle.infer.specs.Standing.{Slots-stand, all-types, Resolved-run, Finish-asked, Finishes}
+use Rattle.infer.specs.Applying.{Applying, Applies, Resolved-to}
+use Rattle.infer.specs.Entry.{Run-asked, Runs}
+use Rattle.infer.specs.declared.layout.Layout.{Layout}
+use Rattle.infer.specs.declared.walk.Walk.{Walk}
+use Rattle.infer.specs.declared.apply.Pass.{Pass}
+use Rattle.infer.specs.declared.tables.Answer.{Answer as Answered}
+use Rattle.infer.proofs.ProgramScope.{scoped-program, entries-length}
+use Rattle.infer.proofs.PositionLaws.{entry-poly}
+use Rattle.infer.proofs.PositionsBody.{checked}
+use Rattle.infer.proofs.GenerateScope.{generate-scoped}
+use Rattle.infer.proofs.Finished.{run-finished, finished-length}
+use Rattle.infer.proofs.TableSizes.{finished-words, entries-sized, image-slots}
+use Rattle.infer.proofs.Composing.{Layout-at, layout-at, prepared-after}
+use Rattle.infer.proofs.EntryLaws.{equations-refused, visits-refused, run-done, good-none, registry-is, outermost-gives, put-none}
+
+-- the walk that `run` starts with, and the pass after its equations
+abbrev pub first-walk : ℕ → Layout → Walk
+first-walk budget lay = record { left = budget; top = lay .top; refused = 0; next = lay .slots; log = lay .log; at = 0 }
+
+abbrev pub first-pass : Walk → Pass
+first-pass g = record { left = g .left; top = g .top; refused = 0; at = 0 }
+
+-- a refusal, as the answer of `run`
+runs-refused : {img bytes w w′ t : List ℕ} {budget : ℕ} (number steps : ℕ) {r : Answered} → output-of budget (length t) (infer-types (program img bytes) budget) ≡ refusal number steps 0
+    → answer-of r ≡ refusal number steps 0 .answer → length w′ ≡ length w → Runs img bytes budget w w′ t t r
+unfolding refusal
+runs-refused {t = t} number steps e a len = record { answers = a ∙ sym (ap (λ o. o .answer) e); writes = sym (ap (λ o. put t 0 (o .tables)) e ∙ put-none t); len = len }
+
+module _ {img bytes w w₁ : List ℕ} {budget : ℕ} {lay : Layout} (asked : Run-asked img bytes budget w) (l : Lays-out img w w₁ budget lay) where
+  c : Checked-image img bytes budget
+  c = checked (asked .passed)
+
+  layout : Layout-at img budget lay
+  layout = layout-at (l .prepared .is)
+
+  tables-laid : Laid img
+  tables-laid = laid img (c .long) (c .short) (c .header)
+
+  abbrev p : Program
+  p = program img bytes
+
+  -- all of the layout lies in the work words
+  entries-inside : lay .entries + lay .slots ≤ length w₁
+  entries-inside =
+      let f = layout in
+      let a = tables-laid .table Slots in
+      let b = tables-laid .table Types in
+      let d = tables-laid .table Lists in
+      omega (arith, l .prepared .long, c .long)
+
+  words-few : length w₁ < 2 ^ 32
+  words-few = omega (arith, l .prepared .long, c .short, c .steps)
+
+  entries-many : length (p .entries) ≡ lay .slots
+  entries-many = entries-length img bytes c ∙ sym (layout .slots-are)
+
+  no-bindings : Good w₁ (lay .lo) (lay .top) []
+  no-bindings =
+      let f = layout in
+      good-none w₁ (lay .lo) (lay .top) (omega arith) (λ k h. l .bindings k h ∙ asked .unbound k (omega arith))
+
+  -- what `generate` asks
+  pub ready : Ready img bytes w₁ lay (lay .log) (first-walk budget lay)
+  ready =
+      let f = layout in
+      let i = entries-inside in
+      record {
+        budget = budget;
+        passed = asked .passed;
+        solving = record {
+          budget = budget;
+          prepared = l .prepared;
+          few = c .steps;
+          laid = tables-laid;
+          slot-inside = λ n h. omega (arith, identifier-slot img (length bytes) (c .references) n h);
+          fewer = omega arith;
+          room = record { heap = omega arith; hand = omega arith; small = words-few };
+          slots = omega arith;
+          entries = omega arith;
+          opened = omega arith;
+          running = refl;
+          σ = [];
+          good = no-bindings;
+        };
+        opened = omega arith;
+        begun = omega arith;
+        names = [];
+        logged = none-logged refl;
+      }
+
+  module _ {w₂ : List ℕ} {g : Walk} (gen : Generates (λ ns k. generate-for (program img bytes) 0 k) img bytes w₁ w₂ lay (lay .log) (first-walk budget lay) g) where
+    -- what the equations of the program come to
+    ran : Ran img bytes w₂ lay (lay .log) g (generate p) (unify-all (registry p) [] budget (generate p .equations))
+    ran =
+        subst (λ (reg : Registry). Ran img bytes w₂ lay (lay .log) g (generate p) (unify-all reg [] budget (generate p .equations))) (registry-is img bytes)
+        (subst (λ (x : Generated). Ran img bytes w₂ lay (lay .log) g x (unify-all (registry-of img bytes) [] budget (x .equations))) (outermost-gives img bytes entries-many)
+        (gen .means [] [] no-bindings (none-logged refl)))
+
+    -- as many work words as there were
+    generated-length : length w₂ ≡ length w
+    generated-length = gen .keeps .len ∙ l .prepared .long ∙ sym (asked .long)
+
+    -- the answer where the equations are refused
+    pub generate-stops : {t : List ℕ} {r : Answered} → (g .refused ≡ 0 → ⊥) → answer-of r ≡ refusal (g .refused) (budget - g .left) 0 .answer → Runs img bytes budget w w₂ t t r
+    generate-stops {t} z a =
+        let h = ran .ended z in
+        runs-refused (g .refused) (budget - g .left) (equations-refused p budget (length t) (h .is) ∙ ap (λ n. refusal n (budget - g .left) 0) (sym (h .by-number))) a generated-length
+
+    module _ (z : g .refused ≡ 0) where
+      abbrev σ : Log
+      σ = ran .finished z .0
+
+      unified : unify-all (registry p) [] budget (generate p .equations) ≡ done σ (g .left)
+      unified = ran .finished z .1
+
+      good : Good w₂ (lay .lo) (g .top) σ
+      good = ran .finished z .2
+
+      made : g .next ≡ generate p .slots
+      made = ran .finished z .4
+
+      still-prepared : Prepared img w₂ budget lay (g .top)
+      still-prepared = prepared-after (l .prepared) (gen .keeps .len) (gen .keeps .grows) (gen .keeps .below)
+
+      -- the slots' types are the entry types
+      entry-types : Slots-stand w₂ lay (g .top) (p .entries)
+      entry-types = record {
+        many = entries-many;
+        each = λ k h.
+            let s : k < count Slots img = omega (arith, layout .slots-are) in
+            let e = gen .keeps .entries (lay .entries + k) (omega arith) ∙ l .entries k s in
+            rw (e, entry-poly img bytes k s) (still-prepared .types .rep (cell Slots img k 0) (slot-type img (length bytes) (c .references) k s));
+      }
+
+      room : Room w₂ (g .top) (g .left) (lay .stack)
+      room =
+          let f = layout in
+          let s = gen .keeps .pays z .spent in
+          let n = gen .keeps .len in
+          let i = entries-inside in
+          let m = gen .keeps .fewer in
+          record { heap = omega arith; hand = omega arith; small = omega (arith, words-few) }
+
+      -- what `apply` asks
+      pub applying : Applying img w₂ lay (first-pass g)
+      applying = record {
+        bytes = bytes;
+        budget = budget;
+        passed = asked .passed;
+        prepared = still-prepared;
+        fewer = gen .keeps .fewer;
+        room = room;
+        running = refl;
+        σ = σ;
+        types = p .entries;
+        good = good;
+        stand = entry-types;
+      }
+
+      module _ {w₃ : List ℕ} {a : Pass} (app : Applies (λ names. visits (program img names)) img w₂ w₃ lay (first-pass g) a) where
+        resolved : Resolved-to w₃ lay a (resolve-identifiers σ (g .left) (p .entries) (visits p))
+        resolved = app .means bytes budget (asked .passed) σ (p .entries) good entry-types
+
+        -- as many work words as there were
+        applied-length : length w₃ ≡ length w
+        applied-length = app .keeps .len ∙ generated-length
+
+        -- the answer where a visit is refused
+        pub apply-stops : {t : List ℕ} {r : Answered} → (a .refused ≡ 0 → ⊥) → answer-of r ≡ refusal (a .refused) (budget - a .left) 0 .answer → Runs img bytes budget w w₃ t t r
+        apply-stops {t} n e =
+            let h = resolved .ended n in
+            runs-refused (a .refused) (budget - a .left) (visits-refused p budget (length t) unified (h .is) ∙ ap (λ m. refusal m (budget - a .left) 0) (sym (h .by-number))) e applied-length
+
+        module _ (n : a .refused ≡ 0) where
+          abbrev types : List Ty
+          types = resolved .finished n .0
+
+          whole : infer-types p budget ≡ done (record { log = σ; types = types ++ made-types (length (p .entries)) (generate p .slots) }) (a .left)
+          whole = run-done p budget unified (resolved .finished n .1)
+
+          -- every slot's type, in the terms of `finish`
+          all-are : types ++ made-types (length (p .entries)) (generate p .slots) ≡ all-types lay (g .next) types
+          unfolding all-types
+          all-are = ap₂ (λ n m. types ++ made-types n m) entries-many (sym made)
+
+          rows-are : length (types ++ made-types (length (p .entries)) (generate p .slots)) ≡ g .next
+          rows-are = finished-length (scoped-program img bytes c) (run-finished p budget whole) ∙ sym made
+
+          resolved-run : Resolved-run w₃ lay (g .next) σ types
+          resolved-run =
+              let f = layout in
+              let i = entries-inside in
+              let e = gen .keeps .len in
+              let d = app .keeps .len in
+              record {
+                top = a .top;
+                inside = omega (arith, room .heap, room .hand, app .keeps .spent);
+                good = good-same w₃ (a .top) (app .keeps .grows) (λ k x y. app .keeps .below k y) good;
+                stand = resolved .finished n .2;
+                first = omega (arith, generate-scoped (scoped-program img bytes c) .grows, made, entries-many);
+                bound = omega (arith, gen .keeps .pays z .made);
+                placed = omega arith;
+                small = omega (arith, words-few);
+              }
+
+          -- what `finish` asks
+          pub finish-asked : Finish-asked w₃ lay (g .next)
+          finish-asked = record {
+            σ = σ;
+            types = types;
+            resolved = resolved-run;
+            few =
+                subst (λ x. length (tables-of x (binding-rows σ (g .next))) < 2 ^ 32) all-are
+                (subst (λ m. length (tables-of (types ++ made-types (length (p .entries)) (generate p .slots)) (binding-rows σ m)) < 2 ^ 32) rows-are
+                (omega (arith, finished-words (scoped-program img bytes c) (run-finished p budget whole), entries-sized img bytes c, image-slots img bytes c, c .steps)));
+          }
+
+          -- what all of it comes to
+          outputs : (lent : ℕ) → output-of budget lent (infer-types p budget) ≡ with-tables lent (budget - a .left) (all-types lay (g .next) types) (binding-rows σ (g .next))
+          unfolding output-of
+          outputs lent =
+              ap (output-of budget lent) whole
+              ∙ ap₂ (λ x m. with-tables lent (budget - a .left) x (binding-rows σ m)) all-are rows-are
+
+          -- the answer where all is done
+          pub run-finishes : {t t′ : List ℕ} {r : Answered} → Finishes w₃ lay (g .next) (budget - a .left) t t′ r → Runs img bytes budget w w₃ t t′ r
+          run-finishes {t} h = record {
+            answers = h .answers σ types resolved-run ∙ sym (ap (λ o. o .answer) (outputs (length t)));
+            writes = h .writes σ types resolved-run ∙ sym (ap (λ o. put t 0 (o .tables)) (outputs (length t)));
+            len = applied-length;
+          }

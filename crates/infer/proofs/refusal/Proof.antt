@@ -1,0 +1,12 @@
+use mathlib.Core.Path.{refl}
+use Rattle.infer.specs.Infer.{refusal}
+use Rattle.infer.specs.Lent.{answer-of}
+use Rattle.infer.proofs.refusal.Statement.{statement}
+use Rattle.infer.proofs.refusal.Tie as tie
+
+returns : tie.Need-returns
+unfolding refusal answer-of
+returns c = refl
+
+pub refusal-spec : {M : Type 1} → statement M
+refusal-spec = tie.close (tie.spec returns)

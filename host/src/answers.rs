@@ -1,0 +1,68 @@
+//! Answers of whole runs, stored beside the inputs of a corpus file.
+//!
+//! A file has an answer for each record of its corpus file, in order: the number; for 0 and from 11 on the steps;
+//! for 0 the slots, the bindings, the table words, and the sum of the tables in eight bytes, lowest first. Numbers
+//! are written as in the corpus. Table words were never short.
+
+use crate::corpus::Reader;
+
+/// What `infer_types` answers.
+#[repr(C)]
+#[derive(Clone, Copy, Debug, Default, PartialEq)]
+pub struct Answer {
+    pub number: u32,
+    pub steps: u32,
+    pub slots: u32,
+    pub bindings: u32,
+    pub table_words: u32,
+}
+
+impl Answer {
+    /// Done, and not refused.
+    pub fn is_done(&self) -> bool {
+        self.number == 0
+    }
+
+    /// Refused before the run, with nothing touched.
+    pub fn is_unrun(&self) -> bool {
+        (1..=10).contains(&self.number)
+    }
+
+    /// The answer where this one's tables are longer than the lent words.
+    pub fn without_tables(&self) -> Answer {
+        Answer { number: 14, slots: 0, bindings: 0, ..*self }
+    }
+}
+
+/// An answer, and the sum of its tables.
+#[derive(Clone, Copy, Debug, PartialEq)]
+pub struct Expected {
+    pub answer: Answer,
+    pub sum: u64,
+}
+
+/// FNV-1a, 64 bits, over the words.
+pub fn sum(words: &[u32]) -> u64 {
+    let step = |sum: u64, &word: &u32| (sum ^ word as u64).wrapping_mul(0x0000_0100_0000_01B3);
+    words.iter().fold(0xCBF2_9CE4_8422_2325, step)
+}
+
+pub fn read(file: &[u8]) -> Vec<Expected> {
+    let mut reader = Reader::new(file);
+    let mut all = vec![];
+    while !reader.is_at_end() {
+        let mut answer = Answer { number: reader.number() as u32, ..Answer::default() };
+        let mut tables = sum(&[]);
+        if !answer.is_unrun() {
+            answer.steps = reader.number() as u32;
+        }
+        if answer.is_done() {
+            answer.slots = reader.number() as u32;
+            answer.bindings = reader.number() as u32;
+            answer.table_words = reader.number() as u32;
+            tables = u64::from_le_bytes(std::array::from_fn(|_| reader.byte()));
+        }
+        all.push(Expected { answer, sum: tables });
+    }
+    all
+}

@@ -1,0 +1,191 @@
+//! Tests of the proved run: inputs through the archive, answers, tables and lent words against those expected.
+//!
+//!     infer_tests FOLDER          every test; FOLDER has the corpus and the stored answers
+//!     infer_tests --write FILE    writes the deep inputs, for another judge
+
+use host::answers::{sum, Answer, Expected};
+use host::image::{Case, Input};
+use host::lent::{Memory, Side, Words};
+use host::report::{fail, row};
+use host::{answers, corpus, deep, report};
+use std::io::Write;
+use std::time::Instant;
+
+#[link(name = "infer", kind = "static")]
+extern "C" {
+    fn infer_types(
+        image: *const u32,
+        image_len: usize,
+        names: *const u8,
+        names_len: usize,
+        budget: u32,
+        work: *mut u32,
+        work_len: usize,
+        tables: *mut u32,
+        tables_len: usize,
+    ) -> Answer;
+}
+
+const LIMIT: usize = 65_536;
+const MOST_WORK: usize = 8 * 2 * LIMIT + 1_000_000;
+const MOST_TABLES: usize = 1_000_000;
+/// What work words and table words hold before a run.
+const HELD: [u32; 2] = [0xA5A5_A5A5, 0x5A5A_5A5A];
+/// Words lent beyond those that are asked for, in some of the runs.
+const MORE: usize = 1_000;
+/// The stack that every test runs on.
+const STACK: usize = 8 << 20;
+
+struct Tests {
+    image: Memory,
+    names: Memory,
+    work: Words,
+    tables: Words,
+    counts: [u64; 15],
+    total: [u64; 15],
+}
+
+impl Tests {
+    fn new() -> Tests {
+        Tests {
+            image: Memory::new(4 * (LIMIT + 1)),
+            names: Memory::new(LIMIT + 1),
+            work: Words::new(MOST_WORK),
+            tables: Words::new(MOST_TABLES),
+            counts: [0; 15],
+            total: [0; 15],
+        }
+    }
+
+    /// One run with so many work words and table words; all that it leaves has to be as expected.
+    fn run(&mut self, case: &Case, work: usize, tables: usize, expected: Expected) {
+        let Input { image, names, budget, .. } = &case.input;
+        let image_at = self.image.lend(image, Side::End, 0xFF);
+        let names_at = self.names.lend(names, Side::End, 0xFF);
+        let (before_work, work) = self.work.hold(work, HELD[0]);
+        let (before_tables, tables) = self.tables.hold(tables, HELD[1]);
+        report::start(case);
+        // SAFETY: so many words and bytes stand there, and only the work and table words are to change.
+        let answer = unsafe {
+            infer_types(
+                image_at,
+                image.len(),
+                names_at,
+                names.len(),
+                *budget,
+                work.as_mut_ptr(),
+                work.len(),
+                tables.as_mut_ptr(),
+                tables.len(),
+            )
+        };
+        let lent = (work.len(), tables.len());
+        let check = |holds: bool, what: &str| {
+            if !holds {
+                fail(&format!("{what} with {lent:?} words: {answer:?}, not {expected:?}"), case);
+            }
+        };
+        check(answer == expected.answer, "another answer");
+        let left = if answer.is_unrun() { HELD[0] } else { 0 };
+        check(work.iter().all(|&word| word == left), "work words left");
+        let written = if answer.is_done() { answer.table_words as usize } else { 0 };
+        check(sum(&tables[..written]) == expected.sum, "other tables");
+        check(tables[written..].iter().all(|&word| word == HELD[1]), "table words past the tables");
+        check(before_work.iter().all(|&word| word == HELD[0]), "words before the work words");
+        check(before_tables.iter().all(|&word| word == HELD[1]), "words before the table words");
+        self.counts[answer.number as usize] += 1;
+    }
+
+    /// The runs of a case: just enough words, more of both, and too few table words.
+    fn compare(&mut self, case: &Case, expected: Expected) {
+        let work = case.input.work.min(MOST_WORK - MORE); // less only where the budget is refused
+        let words = expected.answer.table_words as usize;
+        self.run(case, work, words, expected);
+        self.run(case, work, words + MORE, expected);
+        if !expected.answer.is_unrun() {
+            self.run(case, work + MORE, words + MORE, expected);
+        }
+        if expected.answer.is_done() {
+            let refused = Expected { answer: expected.answer.without_tables(), sum: sum(&[]) };
+            self.run(case, work, words - 1, refused);
+        }
+    }
+
+    /// Prints how often each number was answered in a part.
+    fn part(&mut self, name: &str) {
+        println!("{name:<10}{}", row(&self.counts));
+        for (total, count) in self.total.iter_mut().zip(&mut self.counts) {
+            *total += std::mem::take(count);
+        }
+    }
+}
+
+fn read(path: &str) -> Vec<u8> {
+    std::fs::read(path).unwrap_or_else(|error| panic!("{path}: {error}"))
+}
+
+/// The cases with the answers that a file of the folder has for them.
+fn answered(cases: Vec<Case>, folder: &str, name: &str) -> Vec<(Case, Expected)> {
+    let expected = answers::read(&read(&format!("{folder}/{name}.answers")));
+    assert_eq!(cases.len(), expected.len(), "cases and answers of {name}");
+    cases.into_iter().zip(expected).collect()
+}
+
+fn run_corpus(tests: &mut Tests, folder: &str, name: &str) {
+    let cases = corpus::read(name, &read(&format!("{folder}/{name}.corpus")));
+    for (case, expected) in answered(cases, folder, name) {
+        tests.compare(&case, expected);
+    }
+    tests.part(name);
+}
+
+fn run_deep(tests: &mut Tests, folder: &str) {
+    for (case, expected) in answered(deep::deep(), folder, "deep") {
+        // Said before the run: a stack that is too small ends the program.
+        print!("  {}:", case.name);
+        _ = std::io::stdout().flush();
+        let start = Instant::now();
+        tests.compare(&case, expected);
+        let Answer { number, steps, .. } = expected.answer;
+        println!(" {number} after {steps} steps, {} ms", start.elapsed().as_millis());
+    }
+    tests.part("deep");
+}
+
+fn run_all(folder: &str) {
+    let mut tests = Tests::new();
+    println!("{:<10}{}", "answer", row(&std::array::from_fn::<u64, 15, _>(|number| number as u64)));
+    for name in ["rows", "small", "large", "edges"] {
+        run_corpus(&mut tests, folder, name);
+    }
+    run_deep(&mut tests, folder);
+    println!("{:<10}{}", "all", row(&tests.total));
+    if let Some(number) = tests.total.iter().position(|&count| count == 0) {
+        println!("FAILED: no run with answer {number}");
+        std::process::exit(1);
+    }
+    println!("infer_tests: all passed");
+}
+
+/// Writes the deep inputs as a corpus file; the answers in it mean nothing.
+fn write(path: &str) {
+    let mut file = vec![];
+    deep::deep().iter().for_each(|case| corpus::write(&mut file, case));
+    std::fs::write(path, file).unwrap_or_else(|error| panic!("{path}: {error}"));
+}
+
+fn main() {
+    let arguments: Vec<String> = std::env::args().skip(1).collect();
+    match arguments.iter().map(String::as_str).collect::<Vec<_>>()[..] {
+        ["--write", path] => write(path),
+        [folder] => {
+            report::watch();
+            let folder = folder.to_string();
+            let tests = std::thread::Builder::new().stack_size(STACK).spawn(move || run_all(&folder));
+            if tests.expect("a thread").join().is_err() {
+                std::process::exit(1);
+            }
+        }
+        _ => panic!("infer_tests FOLDER or infer_tests --write FILE"),
+    }
+}
