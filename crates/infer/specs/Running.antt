@@ -4,13 +4,16 @@ use mathlib.Core.Path.{_≡_}
 use mathlib.Core.List.{List, [], _∷_}
 use Rattle.image.specs.declared.Table.the-variants.{Names}
 use Rattle.image.specs.Image.{word, count, name-at}
+use Rattle.image.specs.Kind.{Kind}
+use Rattle.image.specs.Program.{program}
 use Rattle.unifier.specs.Log.{Log}
 use Rattle.unifier.specs.Outcome.{Outcome, done}
 use Rattle.unifier.specs.Unify.{unify-all}
 use Rattle.unifier.specs.Work.{at, Good}
 use Rattle.unifier.specs.Walks.{Refuses}
 use Rattle.unifier.specs.Lookup.{registry-of}
-use Rattle.infer.specs.Equations.{Logged-name, Names-log, Generated}
+use Rattle.infer.specs.Equations.{Logged-name, Names-log, Generated, generate-instruction-types}
+use Rattle.infer.specs.Position.{instruction-at}
 use Rattle.infer.specs.Fitting.{Passed, Instruction-fits}
 use Rattle.infer.specs.Solving.{Solving, Walk-keeps}
 use Rattle.infer.specs.declared.layout.Layout.{Layout}
@@ -48,6 +51,10 @@ pub record Generates (gen : Names-log → ℕ → Generated) (img bytes w w′ :
 pub record Generates-to (next : ℕ) (gen : Names-log → ℕ → Generated) (img bytes w w′ : List ℕ) (lay : Layout) (stretch : ℕ) (g r : Walk) : Type 0 where
   pub generates : Generates gen img bytes w w′ lay stretch g r
   pub lands : r .refused ≡ 0 → r .at ≡ next
+
+-- the promise of the equations of an instruction at a position, as one of this kind
+abbrev pub Generates-as : Kind → (img bytes w w′ : List ℕ) → Layout → (stretch : ℕ) → Walk → (place : ℕ) → Walk → Type 0
+Generates-as kind img bytes w w′ lay stretch g place r = Generates (λ ns k. generate-instruction-types (program img bytes) ns k (instruction-at img place) kind) img bytes w w′ lay stretch g r
 
 -- what an instruction's part asks: that, and an instruction with so many items at least
 pub record Ready-at (img bytes w : List ℕ) (lay : Layout) (stretch : ℕ) (g : Walk) (place items : ℕ) : Type 0 where

@@ -9,12 +9,11 @@ ghost use Rattle.image.specs.Image.{word, cell as cell-of};
 ghost use Rattle.image.specs.Body.{kind-of};
 ghost use Rattle.image.specs.Program.{program};
 ghost use Rattle.unifier.specs.Unify.{_≐_};
-ghost use Rattle.infer.specs.Equations.{generate-instruction-types};
 ghost use Rattle.infer.specs.Generate.{generate-instruction, generate-instructions, generate-block, generate-blocks};
 ghost use Rattle.infer.specs.Position.{instruction-at, instructions-at, after-instructions, terminal-place, block-at, blocks-at};
 ghost use Rattle.infer.specs.Fitting.{Instruction-of-fits, Instructions-fit, Phis-fit, Block-fits, Blocks-fit};
 ghost use Rattle.infer.specs.Solving.{place-type, Solving, At-instruction, Solves};
-ghost use Rattle.infer.specs.Running.{Ready, Ready-at, Generates, Generates-to};
+ghost use Rattle.infer.specs.Running.{Ready, Ready-at, Generates, Generates-as, Generates-to};
 ghost use Rattle.infer.specs.Generating.{generate-for, Expression-fits, Function-ready, Solves-phis, Generates-inner};
 use crate::instruction::alias;
 use crate::instruction::binary;
@@ -65,7 +64,7 @@ fn instruction_types(
     at: usize,
 ) -> Walk
     requires { ⌜ Ready-at (now img) (now bytes) (now w) lay stretch g at 0 ⌝ }
-    ensures { λ r. ⌜ Generates (λ ns k. generate-instruction-types (program (now (img .entry)) (now (bytes .entry))) ns k (instruction-at (now (img .entry)) at) (kind-of (instruction-at (now (img .entry)) at))) (now (img .entry)) (now (bytes .entry)) (now (w .entry)) (now (w .exit)) lay stretch g r ⌝ }
+    ensures { λ r. ⌜ Generates-as (kind-of (instruction-at (now (img .entry)) at)) (now (img .entry)) (now (bytes .entry)) (now (w .entry)) (now (w .exit)) lay stretch g at r ⌝ }
 {
     match img[at] {
         0 => load_local(img, bytes, w, lay, g, stretch, at),

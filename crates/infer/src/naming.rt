@@ -8,10 +8,10 @@ ghost use Rattle.image.specs.Program.{program};
 ghost use Rattle.image.specs.Kind.{LoadLocal, PropertyLoad, PropertyStore, ComputedLoad, CallExpression, Destructure};
 ghost use Rattle.unifier.specs.Lookup.{key-name, Key-inside};
 ghost use Rattle.unifier.specs.Unify.{_≐-property_};
-ghost use Rattle.infer.specs.Equations.{access, array-equations, object-equations, destructure-equations, generate-instruction-types};
+ghost use Rattle.infer.specs.Equations.{access, array-equations, object-equations, destructure-equations};
 ghost use Rattle.infer.specs.Generate.{only};
-ghost use Rattle.infer.specs.Position.{item-at, items-at, instruction-at};
-ghost use Rattle.infer.specs.Running.{Ready-at, Generates};
+ghost use Rattle.infer.specs.Position.{item-at, items-at};
+ghost use Rattle.infer.specs.Running.{Ready-at, Generates, Generates-as};
 ghost use Rattle.infer.specs.Naming.{Names-known, Finds-name, Tells-shape, Tells-ref, Property-asked, Reads-literal, Logs-name, Log-asked, Element-asked};
 use crate::instruction::call;
 use crate::layout::Layout;
@@ -154,7 +154,7 @@ pub fn property_load(
     at: usize,
 ) -> Walk
     requires { ⌜ Ready-at (now img) (now bytes) (now w) lay stretch g at 1 × (word (now img) at ≡ 23) ⌝ }
-    ensures { λ r. ⌜ Generates (λ ns k. generate-instruction-types (program (now (img .entry)) (now (bytes .entry))) ns k (instruction-at (now (img .entry)) at) PropertyLoad) (now (img .entry)) (now (bytes .entry)) (now (w .entry)) (now (w .exit)) lay stretch g r ⌝ }
+    ensures { λ r. ⌜ Generates-as PropertyLoad (now (img .entry)) (now (bytes .entry)) (now (w .entry)) (now (w .exit)) lay stretch g at r ⌝ }
 {
     let slot = slot_at(img, at + 1);
     let key = literal(img[at + 2]);
@@ -171,7 +171,7 @@ pub fn computed_load(
     at: usize,
 ) -> Walk
     requires { ⌜ Ready-at (now img) (now bytes) (now w) lay stretch g at 1 ⌝ }
-    ensures { λ r. ⌜ Generates (λ ns k. generate-instruction-types (program (now (img .entry)) (now (bytes .entry))) ns k (instruction-at (now (img .entry)) at) ComputedLoad) (now (img .entry)) (now (bytes .entry)) (now (w .entry)) (now (w .exit)) lay stretch g r ⌝ }
+    ensures { λ r. ⌜ Generates-as ComputedLoad (now (img .entry)) (now (bytes .entry)) (now (w .entry)) (now (w .exit)) lay stretch g at r ⌝ }
 {
     let slot = slot_at(img, at + 1);
     property(
@@ -198,7 +198,7 @@ pub fn call_expression(
     at: usize,
 ) -> Walk
     requires { ⌜ Ready-at (now img) (now bytes) (now w) lay stretch g at 1 ⌝ }
-    ensures { λ r. ⌜ Generates (λ ns k. generate-instruction-types (program (now (img .entry)) (now (bytes .entry))) ns k (instruction-at (now (img .entry)) at) CallExpression) (now (img .entry)) (now (bytes .entry)) (now (w .entry)) (now (w .exit)) lay stretch g r ⌝ }
+    ensures { λ r. ⌜ Generates-as CallExpression (now (img .entry)) (now (bytes .entry)) (now (w .entry)) (now (w .exit)) lay stretch g at r ⌝ }
 {
     let shape = callee_shape(img, bytes, w, stretch, g.log, img[at + 5]);
     call(img, w, lay, g, at, at + 5, 5, shape)
@@ -215,7 +215,7 @@ pub fn property_store(
     at: usize,
 ) -> Walk
     requires { ⌜ Ready-at (now img) (now bytes) (now w) lay stretch g at 1 × (word (now img) at ≡ 22) ⌝ }
-    ensures { λ r. ⌜ Generates (λ ns k. generate-instruction-types (program (now (img .entry)) (now (bytes .entry))) ns k (instruction-at (now (img .entry)) at) PropertyStore) (now (img .entry)) (now (bytes .entry)) (now (w .entry)) (now (w .exit)) lay stretch g r ⌝ }
+    ensures { λ r. ⌜ Generates-as PropertyStore (now (img .entry)) (now (bytes .entry)) (now (w .entry)) (now (w .exit)) lay stretch g at r ⌝ }
 {
     let left = g.left;
     if left == 0 {
@@ -365,7 +365,7 @@ pub fn destructure(
     at: usize,
 ) -> Walk
     requires { ⌜ Ready-at (now img) (now bytes) (now w) lay stretch g at 1 × (word (now img) at ≡ 6) ⌝ }
-    ensures { λ r. ⌜ Generates (λ ns k. generate-instruction-types (program (now (img .entry)) (now (bytes .entry))) ns k (instruction-at (now (img .entry)) at) Destructure) (now (img .entry)) (now (bytes .entry)) (now (w .entry)) (now (w .exit)) lay stretch g r ⌝ }
+    ensures { λ r. ⌜ Generates-as Destructure (now (img .entry)) (now (bytes .entry)) (now (w .entry)) (now (w .exit)) lay stretch g at r ⌝ }
 {
     if img[at + 2] == 0 {
         return array_pattern(img, bytes, w, lay, g, stretch, at);
@@ -402,7 +402,7 @@ pub fn load_local(
     at: usize,
 ) -> Walk
     requires { ⌜ Ready-at (now img) (now bytes) (now w) lay stretch g at 1 ⌝ }
-    ensures { λ r. ⌜ Generates (λ ns k. generate-instruction-types (program (now (img .entry)) (now (bytes .entry))) ns k (instruction-at (now (img .entry)) at) LoadLocal) (now (img .entry)) (now (bytes .entry)) (now (w .entry)) (now (w .exit)) lay stretch g r ⌝ }
+    ensures { λ r. ⌜ Generates-as LoadLocal (now (img .entry)) (now (bytes .entry)) (now (w .entry)) (now (w .exit)) lay stretch g at r ⌝ }
 {
     let h = equal(w, lay, g, slot_at(img, at + 1), slot_at(img, at + 5));
     let refused = h.refused;

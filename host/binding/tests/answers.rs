@@ -1,0 +1,117 @@
+//! The library through this crate: rows of document 01, refusals, edges.
+
+use infer_types::*;
+
+/// Row A: Primitive into the first of two identifiers; perhaps with a Return of it.
+fn row_a(returned: bool) -> Image {
+    let mut image = Builder::new();
+    let (x, out) = (image.identifier(), image.identifier());
+    let screen = image.function();
+    let mut block = Block::new();
+    block.primitive(x);
+    if returned {
+        block.returns(x);
+    }
+    image.body(screen, Body::other(out).block(block));
+    image.finish().expect("a body")
+}
+
+fn run(image: &Image, budget: u32) -> Result<Tables, Refusal> {
+    infer_types(&image.words, &image.names, budget)
+}
+
+#[test]
+fn row_a_and_b() {
+    let tables = run(&row_a(false), 1_024).expect("tables");
+    assert_eq!(tables.to_string(), "slot 0 primitive\nslot 1 var 1\nbind 0 primitive\n");
+    assert_eq!((tables.steps, tables.slot_count(), tables.binding_count()), (6, 2, 1));
+    assert_eq!(tables.words(), [1, 0, 1, 0, 1]);
+    let tables = run(&row_a(true), 1_024).expect("tables");
+    assert_eq!((tables.steps, tables.slot(1)), (12, Inferred::Primitive));
+}
+
+#[test]
+fn row_d_is_a_cycle() {
+    let mut image = Builder::new();
+    let (x, out) = (image.identifier(), image.identifier());
+    let screen = image.function();
+    image.body(screen, Body::other(out).block(Block::new().call(x, x, &[]).take()));
+    let refusal = run(&image.finish().expect("a body"), 1_024).expect_err("a cycle");
+    assert_eq!((refusal.number, refusal.fault()), (12, Fault::ScreenAuthor));
+}
+
+#[test]
+fn row_e_is_a_phi_without_operands() {
+    let mut image = Builder::new();
+    let (x, out) = (image.identifier(), image.identifier());
+    let screen = image.function();
+    image.body(screen, Body::other(out).block(Block::new().phi(x, &[]).take()));
+    assert_eq!(run(&image.finish().expect("a body"), 1_024).expect_err("an empty phi").number, 11);
+}
+
+#[test]
+fn nested_types_are_read() {
+    let mut image = Builder::new();
+    let (x, out) = (image.identifier(), image.identifier());
+    let screen = image.function();
+    let (poly, array) = (image.poly(), image.object(shapes::ARRAY));
+    let constructor = image.constructor_type(None, poly);
+    let phi = image.phi_type(&[array, constructor]);
+    let function = image.function_type(shapes::FUNCTION, phi);
+    image.body(screen, Body::other(out).block(Block::new().load_global(x, Some(function)).take()));
+    let tables = run(&image.finish().expect("a body"), 1_024).expect("tables");
+    assert_eq!(tables.slot(0).to_string(), "function 5 phi 2 object 4 constructor none poly");
+    assert_eq!(tables.binding(0), Some(tables.slot(0)));
+    assert_eq!(tables.binding(1), None);
+}
+
+#[test]
+fn edges_of_budget_work_and_tables() {
+    let image = row_a(false);
+    let refused = |budget| run(&image, budget).expect_err("a refusal").number;
+    assert!(run(&image, 6).is_ok());
+    assert!(run(&image, 65_536).is_ok());
+    assert_eq!(refused(5), 13);
+    assert_eq!(refused(65_537), 3);
+    assert_eq!(infer_types(&[1; 19], &[], 1).expect_err("a refusal").number, 1);
+    assert_eq!(infer_types(&vec![1; 65_537], &[], 1).expect_err("a refusal").number, 1);
+
+    let mut work = vec![0; work_words(image.words.len(), 6)];
+    let mut tables = [7; 6];
+    let short = work.len() - 1;
+    let answer = infer_types_into(&image.words, &image.names, 6, &mut work[..short], &mut tables);
+    assert_eq!(answer, Answer { number: 4, ..Answer::default() });
+    let answer = infer_types_into(&image.words, &image.names, 6, &mut work, &mut tables[..4]);
+    assert_eq!(answer, Answer { number: 14, steps: 6, table_words: 5, ..Answer::default() });
+    assert_eq!(tables, [7; 6]);
+    work.fill(0);
+    let answer = infer_types_into(&image.words, &image.names, 6, &mut work, &mut tables);
+    assert_eq!(answer, Answer { number: 0, steps: 6, slots: 2, bindings: 1, table_words: 5 });
+    assert_eq!(tables, [1, 0, 1, 0, 1, 7]);
+}
+
+#[test]
+fn tables_longer_than_most_are_lent() {
+    let mut image = Builder::new();
+    let out = image.identifier();
+    let screen = image.function();
+    image.body(screen, Body::other(out));
+    let mut long = image.primitive();
+    for _ in 0..10 {
+        long = image.phi_type(&[long, long]);
+    }
+    for _ in 0..100 {
+        image.slot_of(long);
+    }
+    let tables = run(&image.finish().expect("a body"), 1_024).expect("tables");
+    assert_eq!(tables.words().len(), 2 + 100 * (3 * 1_024 - 2));
+}
+
+#[test]
+fn every_refusal_has_its_own_help() {
+    let help = |number| Refusal { number, steps: 0 }.help();
+    let mut all: Vec<&str> = (1..=15).map(help).collect();
+    all.sort();
+    all.dedup();
+    assert_eq!(all.len(), 15);
+}

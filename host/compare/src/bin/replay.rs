@@ -1,0 +1,37 @@
+//! Replays stored answers, the Rust's or the reference model's, over the library: number, slots and bindings have to
+//! be the same, and steps where they are known.
+//!
+//!     replay FILE..
+
+use compare::answer::Library;
+use compare::linked::Linked;
+use compare::stored;
+use infer_image::parts::NONE;
+use std::collections::BTreeMap;
+
+fn main() {
+    let mut counts: BTreeMap<u32, u64> = BTreeMap::new();
+    let mut differences = 0;
+    for path in std::env::args().skip(1) {
+        let file = std::fs::read(&path).unwrap_or_else(|error| panic!("{path}: {error}"));
+        for (number, (input, expected)) in stored::read(&file).into_iter().enumerate() {
+            let mut answer = Linked::default().answer(&input);
+            if expected.steps == NONE {
+                // the Rust counts none
+                answer.steps = NONE;
+            }
+            if answer == expected {
+                *counts.entry(expected.number).or_default() += 1;
+            } else {
+                differences += 1;
+                println!("{path}, record {number}: {} slots, {} bindings and answer {} where {}, {} and {} are stored",
+                    answer.slots, answer.bindings, answer.number, expected.slots, expected.bindings, expected.number);
+            }
+        }
+    }
+    let counts: Vec<String> = counts.iter().map(|(number, count)| format!("{number}: {count}")).collect();
+    println!("replay: answers {}; {differences} differences", counts.join(", "));
+    if differences > 0 || counts.is_empty() {
+        std::process::exit(1);
+    }
+}

@@ -1,0 +1,95 @@
+"""Answers of the reference model, in the format that compare/src/stored.rs describes.
+
+    python3 host/data/answers.py REFERENCE answer IN OUT              IN's inputs with the model's answers
+    python3 host/data/answers.py REFERENCE generate SEED COUNT WORDS OUT   inputs of the model's own generator
+
+REFERENCE is the folder of the reference model (model.py, generate.py).
+"""
+
+import struct
+import sys
+
+NONE = 0xFFFFFFFF
+TABLE_WORDS = 1 << 24
+
+
+def number(value):
+    digits = bytearray()
+    while value > 127:
+        digits.append(value & 127 | 128)
+        value >>= 7
+    digits.append(value)
+    return bytes(digits)
+
+
+def words(values):
+    return number(len(values)) + b"".join(number((value + 1) & NONE) for value in values)
+
+
+def record(image, names, budget, work, answer):
+    return (words(image) + number(len(names)) + bytes(names) + number(budget) + number(work)
+            + number(answer.number) + number(answer.steps + 1) + number(answer.slots)
+            + number(answer.binds) + words(answer.tables))
+
+
+class Reader:
+    def __init__(self, data):
+        self.data, self.at = data, 0
+
+    def number(self):
+        value = shift = 0
+        while True:
+            digit = self.data[self.at]
+            self.at += 1
+            value |= (digit & 127) << shift
+            if digit < 128:
+                return value
+            shift += 7
+
+    def words(self):
+        return [(self.number() - 1) & NONE for _ in range(self.number())]
+
+    def inputs(self):
+        """Each record's (image, names, budget, work); its answer is passed over."""
+        while self.at < len(self.data):
+            image, count = self.words(), self.number()
+            names = self.data[self.at:self.at + count]
+            self.at += count
+            budget, work = self.number(), self.number()
+            for _ in range(4):
+                self.number()
+            self.words()
+            yield image, names, budget, work
+
+
+def generated(generate, seed, count, most):
+    """Valid, damaged and edge inputs of the model's generator, work words just enough."""
+    for at in range(seed, seed + count):
+        kind = ("valid", "valid", "damaged", "edge")[at % 4]
+        data = generate.generate_input(at, most, kind)
+        size, names, budget = struct.unpack_from("<3I", data)
+        if len(data) != 12 + 4 * size + names:
+            continue
+        image = list(struct.unpack_from("<%dI" % size, data, 12))
+        yield image, data[12 + 4 * size:], budget, 8 * (size + budget)
+
+
+def main():
+    reference, command, *rest = sys.argv[1:]
+    sys.path.insert(0, reference)
+    import generate
+    import model
+    if command == "generate":
+        seed, count, most = map(int, rest[:3])
+        inputs = generated(generate, seed, count, most)
+    else:
+        with open(rest[0], "rb") as file:
+            inputs = list(Reader(file.read()).inputs())
+    with open(rest[-1], "wb") as out:
+        for image, names, budget, work in inputs:
+            answer = model.run(image, names, budget, work, TABLE_WORDS)
+            out.write(record(image, names, budget, work, answer))
+
+
+if __name__ == "__main__":
+    main()
