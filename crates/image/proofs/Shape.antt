@@ -13,10 +13,10 @@ use Rattle.names.specs.Names.{same}
 use Rattle.image.specs.declared.Table.{Table}
 use Rattle.image.specs.declared.Table.the-variants.{Shapes, Properties}
 use Rattle.image.specs.Image.{count, cell}
-use Rattle.image.specs.Check.{rows-pass, each, inside, among, distinct, shape-row-sound, shape-sound, shapes-sound}
+use Rattle.image.specs.Check.{rows-pass, each, inside, types-sound, among, distinct, shape-row-sound, shape-sound, shapes-sound}
 use Rattle.image.specs.Numbering.{at}
 use Rattle.image.specs.Blocks.{name-of, Reaches}
-use Rattle.image.specs.Shapes.{shape-fits, reach-sound}
+use Rattle.image.specs.Shapes.{shape-fits, reach-sound, large-test}
 use Rattle.image.proofs.Passed.{rows-each}
 use Rattle.image.proofs.Distinct.{distinct-apart}
 
@@ -208,3 +208,14 @@ module _ (img bytes : List ℕ) where
 
   pub shapes-rows : {n : ℕ} → n ≡ count Shapes img → 9 ≤ n → shapes-sound img bytes ≡ rows-pass (shape-sound img bytes) 0 n
   shapes-rows e h = enough-shapes (omega arith) ∙ each-rows Shapes img (shape-sound img bytes) e
+
+-- what the tests in large arrays say of types, and of shapes
+pub large-types : (types : ℕ) (img bytes : List ℕ) → 0 < types → large-test types img bytes ≡ types-sound img
+unfolding large-test
+large-types zero img bytes l = absurd (omega arith)
+large-types (suc n) img bytes l = refl
+
+pub large-shapes : (types : ℕ) (img bytes : List ℕ) → types ≤ 0 → large-test types img bytes ≡ each Shapes img (shape-sound img bytes)
+unfolding large-test
+large-shapes zero img bytes l = refl
+large-shapes (suc n) img bytes l = absurd (omega arith)

@@ -9,6 +9,7 @@ mod blocks;
 mod body;
 mod header;
 mod instruction;
+mod large;
 mod marks;
 mod nesting;
 mod numbering;

@@ -38,7 +38,7 @@ fn check_tables(img: &[u32], bytes: &[u8]) -> u32
     if !references_sound(img, bytes.len()) {
         return 6;
     }
-    if !types_sound(img) {
+    if !types_sound(img, bytes) {
         return 7;
     }
     if !shapes_sound(img, bytes) {

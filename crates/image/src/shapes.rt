@@ -11,6 +11,7 @@ use crate::Table;
 use crate::blocks::name_word;
 use crate::cell;
 use crate::count;
+use crate::large::in_large_arrays;
 use crate::name_bytes;
 use crate::reach::reach;
 
@@ -128,7 +129,7 @@ fn shapes_within(img: &[u32], ends: &[u16]) -> bool
 }
 
 // Every shape, with the property rows numbered by their names.
-fn shapes_numbered(img: &[u32], bytes: &[u8]) -> bool
+pub fn shapes_numbered(img: &[u32], bytes: &[u8]) -> bool
     requires { ⌜ Names-inside (now img) (now bytes) ⌝ }
     ensures { λ r. ⌜ r ≡ each Table.Shapes (now (img .entry)) (shape-sound (now (img .entry)) (now (bytes .entry))) ⌝ }
 {
@@ -156,10 +157,10 @@ pub fn shapes_sound(img: &[u32], bytes: &[u8]) -> bool
         let n = cell(img, Table::Shapes, s, 2);
         let end = first + n;
         if left < n {
-            return shapes_numbered(img, bytes);
+            return in_large_arrays(img, bytes, 0);
         }
         if !are_few(img, first, end) {
-            return shapes_numbered(img, bytes);
+            return in_large_arrays(img, bytes, 0);
         }
         if !are_distinct(img, bytes, first, end) {
             return false;

@@ -6,12 +6,13 @@ ghost use lib.Dec.{eqb};
 ghost use Rattle.image.specs.declared.Table.the-variants.{Types};
 ghost use Rattle.image.specs.Image.{count as count-of, node-function, node-phi, node-at};
 ghost use Rattle.image.specs.Check.{types-sound};
-ghost use Rattle.image.specs.Laid.{Laid};
+ghost use Rattle.image.specs.Laid.{Laid, Names-inside};
 ghost use Rattle.image.specs.Sizes.{words-if, node-words, Roomy, Next-type};
 use crate::Table;
 use crate::cell;
 use crate::count;
 use crate::header::in_table_or_none;
+use crate::large::in_large_arrays;
 
 // The words of a type without parts, 0 unless a fits and b is unused.
 fn leaf_words(fits: bool, b: u32, words: u32) -> u32
@@ -114,7 +115,7 @@ fn types_sound_small(img: &[u32]) -> bool
 }
 
 // The same of as many types as an image can have.
-fn types_sound_large(img: &[u32]) -> bool
+pub fn types_sound_large(img: &[u32]) -> bool
     requires { ⌜ Laid (now img) ⌝ }
     ensures { λ r. ⌜ r ≡ types-sound (now (img .entry)) ⌝ }
 {
@@ -123,13 +124,13 @@ fn types_sound_large(img: &[u32]) -> bool
 }
 
 // Whether every type keeps the type rules.
-pub fn types_sound(img: &[u32]) -> bool
-    requires { ⌜ Laid (now img) ⌝ }
+pub fn types_sound(img: &[u32], bytes: &[u8]) -> bool
+    requires { ⌜ Names-inside (now img) (now bytes) ⌝ }
     ensures { λ r. ⌜ r ≡ types-sound (now (img .entry)) ⌝ }
 {
-    if count(img, Table::Types) <= 342 {
-        types_sound_small(img)
-    } else {
-        types_sound_large(img)
+    let types = count(img, Table::Types);
+    if types <= 342 {
+        return types_sound_small(img);
     }
+    in_large_arrays(img, bytes, types)
 }

@@ -71,7 +71,7 @@ check-tables-spec =
     returns
     (λ c κs. tables c)
     returns-2
-    (λ c κs. tables (c .before .before))
+    (λ c κs. names-inside _ _ (tables (c .before .before)) (c .before .before .before .before .before .before .pre .few) (references c))
     returns-3
     shapes-requires
     returns-4

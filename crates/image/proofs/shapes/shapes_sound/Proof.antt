@@ -1,5 +1,4 @@
-use Rattle.image.proofs.Shape.{few-shapes, enough-shapes, shapes-rows, sound-unfit, sound-compared, fits-inside}
-use Rattle.image.proofs.Shape.{few-shapes, enough-shapes, sound-unfit, sound-compared, fits-inside}
+use Rattle.image.proofs.Shape.{few-shapes, enough-shapes, shapes-rows, sound-unfit, sound-compared, fits-inside, large-shapes}
 use Rattle.image.proofs.Passed.{Passed, passed-start, passed-turn, passed-fails, passed-end}
 use Rattle.image.proofs.Levels.{names-in}
 use Rattle.image.proofs.Ending.{rows-few}
@@ -36,7 +35,7 @@ add-end c =
     omega (arith, fits, rows-few (c .before .before .before .before .before .before .before .before .before .before .before .pre .laid), c .before .cell .ensures, c .cell2 .ensures)
 
 returns-3 : tie.Need-returns-3 Inv-loop μ-loop
-returns-3 c = c .shapes-numbered .ensures ∙ sym (enough-shapes _ _ (omega (arith, c .before .before .before .before .before .before .before .before .before .before .count .ensures, c .before .before .before .before .before .before .before .before .before .if1 .left)))
+returns-3 c = c .in-large-arrays .ensures ∙ large-shapes 0 _ _ (omega arith) ∙ sym (enough-shapes _ _ (omega (arith, c .before .before .before .before .before .before .before .before .before .before .count .ensures, c .before .before .before .before .before .before .before .before .before .if1 .left)))
 
 are-few-requires : tie.Need-are-few-requires Inv-loop μ-loop
 are-few-requires c κs =
@@ -45,7 +44,7 @@ are-few-requires c κs =
     (names-in pre (pre .few), omega (arith, c .before .before .cell .ensures), omega (arith, fits, c .before .before .cell .ensures, c .before .cell2 .ensures))
 
 returns-4 : tie.Need-returns-4 Inv-loop μ-loop
-returns-4 c = c .shapes-numbered2 .ensures ∙ sym (enough-shapes _ _ (omega (arith, c .before .before .before .before .before .before .before .before .before .before .before .before .count .ensures, c .before .before .before .before .before .before .before .before .before .before .before .if1 .left)))
+returns-4 c = c .in-large-arrays2 .ensures ∙ large-shapes 0 _ _ (omega arith) ∙ sym (enough-shapes _ _ (omega (arith, c .before .before .before .before .before .before .before .before .before .before .before .before .count .ensures, c .before .before .before .before .before .before .before .before .before .before .before .if1 .left)))
 
 are-distinct-requires : tie.Need-are-distinct-requires Inv-loop μ-loop
 are-distinct-requires c κs =
