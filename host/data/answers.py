@@ -9,21 +9,11 @@ REFERENCE is the folder of the reference model (model.py, generate.py).
 import struct
 import sys
 
-NONE = 0xFFFFFFFF
-TABLE_WORDS = 1 << 24
-
-
-def number(value):
-    digits = bytearray()
-    while value > 127:
-        digits.append(value & 127 | 128)
-        value >>= 7
-    digits.append(value)
-    return bytes(digits)
+from corpus import MOST_TABLES, NONE, number, word
 
 
 def words(values):
-    return number(len(values)) + b"".join(number((value + 1) & NONE) for value in values)
+    return number(len(values)) + b"".join(map(word, values))
 
 
 def record(image, names, budget, work, answer):
@@ -87,7 +77,7 @@ def main():
             inputs = list(Reader(file.read()).inputs())
     with open(rest[-1], "wb") as out:
         for image, names, budget, work in inputs:
-            answer = model.run(image, names, budget, work, TABLE_WORDS)
+            answer = model.run(image, names, budget, work, MOST_TABLES)
             out.write(record(image, names, budget, work, answer))
 
 

@@ -5,33 +5,21 @@
 //! are written as in the corpus. Table words were never short.
 
 use crate::corpus::Reader;
+use infer_types::Answer;
 
-/// What `infer_types` answers.
-#[repr(C)]
-#[derive(Clone, Copy, Debug, Default, PartialEq)]
-pub struct Answer {
-    pub number: u32,
-    pub steps: u32,
-    pub slots: u32,
-    pub bindings: u32,
-    pub table_words: u32,
+/// Done, and not refused.
+pub fn is_done(answer: &Answer) -> bool {
+    answer.number == 0
 }
 
-impl Answer {
-    /// Done, and not refused.
-    pub fn is_done(&self) -> bool {
-        self.number == 0
-    }
+/// Refused before the run, with nothing touched.
+pub fn is_unrun(answer: &Answer) -> bool {
+    (1..=10).contains(&answer.number)
+}
 
-    /// Refused before the run, with nothing touched.
-    pub fn is_unrun(&self) -> bool {
-        (1..=10).contains(&self.number)
-    }
-
-    /// The answer where this one's tables are longer than the lent words.
-    pub fn without_tables(&self) -> Answer {
-        Answer { number: 14, slots: 0, bindings: 0, ..*self }
-    }
+/// The answer where this one's tables are longer than the lent words.
+pub fn without_tables(answer: Answer) -> Answer {
+    Answer { number: 14, slots: 0, bindings: 0, ..answer }
 }
 
 /// An answer, and the sum of its tables.
@@ -53,10 +41,10 @@ pub fn read(file: &[u8]) -> Vec<Expected> {
     while !reader.is_at_end() {
         let mut answer = Answer { number: reader.number() as u32, ..Answer::default() };
         let mut tables = sum(&[]);
-        if !answer.is_unrun() {
+        if !is_unrun(&answer) {
             answer.steps = reader.number() as u32;
         }
-        if answer.is_done() {
+        if is_done(&answer) {
             answer.slots = reader.number() as u32;
             answer.bindings = reader.number() as u32;
             answer.table_words = reader.number() as u32;

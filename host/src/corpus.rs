@@ -38,12 +38,22 @@ impl Reader<'_> {
         number
     }
 
-    fn count(&mut self) -> usize {
+    pub fn count(&mut self) -> usize {
         self.number() as usize
     }
 
-    fn word(&mut self) -> u32 {
+    pub fn word(&mut self) -> u32 {
         (self.number() as u32).wrapping_sub(1)
+    }
+
+    /// A count, and so many words.
+    pub fn words(&mut self) -> Vec<u32> {
+        (0..self.number()).map(|_| self.word()).collect()
+    }
+
+    /// A count, and so many bytes.
+    pub fn bytes(&mut self) -> Vec<u8> {
+        (0..self.number()).map(|_| self.byte()).collect()
     }
 }
 
@@ -55,8 +65,8 @@ pub fn read(name: &str, file: &[u8]) -> Vec<Case> {
     while !reader.is_at_end() {
         let (mut image, mut names);
         if reader.number() == 0 {
-            words = (0..reader.count()).map(|_| reader.word()).collect::<Vec<u32>>();
-            bytes = (0..reader.count()).map(|_| reader.byte()).collect();
+            words = reader.words();
+            bytes = reader.bytes();
             (image, names) = (words.clone(), bytes.clone());
         } else {
             (image, names) = (words.clone(), bytes.clone());
@@ -78,7 +88,7 @@ pub fn read(name: &str, file: &[u8]) -> Vec<Case> {
     cases
 }
 
-fn push(out: &mut Vec<u8>, mut number: u64) {
+pub fn push(out: &mut Vec<u8>, mut number: u64) {
     while number > 127 {
         out.push(number as u8 | 128);
         number >>= 7;
@@ -86,14 +96,18 @@ fn push(out: &mut Vec<u8>, mut number: u64) {
     out.push(number as u8);
 }
 
+pub fn push_words(out: &mut Vec<u8>, words: &[u32]) {
+    push(out, words.len() as u64);
+    for word in words {
+        push(out, word.wrapping_add(1) as u64);
+    }
+}
+
 /// Adds a case as a record 0.
 pub fn write(out: &mut Vec<u8>, case: &Case) {
     let Input { image, names, budget, work } = &case.input;
     push(out, 0);
-    push(out, image.len() as u64);
-    for word in image {
-        push(out, word.wrapping_add(1) as u64);
-    }
+    push_words(out, image);
     push(out, names.len() as u64);
     out.extend(names);
     for number in [*budget as u64, *work as u64, case.expected as u64] {

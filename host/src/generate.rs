@@ -22,6 +22,20 @@ pub fn valid(random: &mut Random, words: u32) -> Valid {
     Valid { input, roles }
 }
 
+/// Where an image's parts may stand: in or out of order, with or without gaps.
+pub fn any_layout(random: &mut Random, image: &Image) -> Layout {
+    let mut layout = image.layout();
+    if random.percent(50) {
+        random.shuffle(&mut layout.tables);
+        random.shuffle(&mut layout.bodies);
+    }
+    if random.percent(30) {
+        let gap = |random: &mut Random| vec![random.pick(&[0, 1, NONE]); random.pick(&[0, 0, 1, 3])];
+        layout.gaps = (0..8 + layout.bodies.len()).map(|_| gap(random)).collect();
+    }
+    layout
+}
+
 struct Writer<'a> {
     random: &'a mut Random,
     image: Image,
@@ -261,16 +275,7 @@ impl Writer<'_> {
     }
 
     fn lay_out(&mut self) -> Input {
-        let mut layout = self.image.layout();
-        if self.random.percent(50) {
-            self.random.shuffle(&mut layout.tables);
-            self.random.shuffle(&mut layout.bodies);
-        }
-        if self.random.percent(30) {
-            let gap = |random: &mut Random| vec![random.pick(&[0, 1, NONE]); random.pick(&[0, 0, 1, 3])];
-            layout.gaps = (0..8 + layout.bodies.len()).map(|_| gap(self.random)).collect();
-        }
-        let mut input = self.image.write_as(&layout);
+        let mut input = self.image.write_as(&any_layout(self.random, &self.image));
         let length = input.image.len() as u32;
         if self.random.percent(20) {
             // an empty table stands anywhere; list words in no Phi may lie over anything

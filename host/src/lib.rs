@@ -1,5 +1,6 @@
 //! What the tests of the proved libraries share.
 
+#[cfg(feature = "library")]
 pub mod answers;
 pub mod corpus;
 pub mod damage;

@@ -3,30 +3,16 @@
 //!     infer_tests FOLDER          every test; FOLDER has the corpus and the stored answers
 //!     infer_tests --write FILE    writes the deep inputs, for another judge
 
-use host::answers::{sum, Answer, Expected};
+use host::answers::{is_done, is_unrun, sum, without_tables, Expected};
 use host::image::{Case, Input};
 use host::lent::{Memory, Side, Words};
 use host::report::{fail, row};
 use host::{answers, corpus, deep, report};
+use infer_types::{infer_types_into, Answer, LIMIT};
 use std::io::Write;
+use std::slice;
 use std::time::Instant;
 
-#[link(name = "infer", kind = "static")]
-extern "C" {
-    fn infer_types(
-        image: *const u32,
-        image_len: usize,
-        names: *const u8,
-        names_len: usize,
-        budget: u32,
-        work: *mut u32,
-        work_len: usize,
-        tables: *mut u32,
-        tables_len: usize,
-    ) -> Answer;
-}
-
-const LIMIT: usize = 65_536;
 const MOST_WORK: usize = 8 * 2 * LIMIT + 1_000_000;
 const MOST_TABLES: usize = 1_000_000;
 /// What work words and table words hold before a run.
@@ -65,20 +51,11 @@ impl Tests {
         let (before_work, work) = self.work.hold(work, HELD[0]);
         let (before_tables, tables) = self.tables.hold(tables, HELD[1]);
         report::start(case);
-        // SAFETY: so many words and bytes stand there, and only the work and table words are to change.
-        let answer = unsafe {
-            infer_types(
-                image_at,
-                image.len(),
-                names_at,
-                names.len(),
-                *budget,
-                work.as_mut_ptr(),
-                work.len(),
-                tables.as_mut_ptr(),
-                tables.len(),
-            )
+        // SAFETY: so many words and bytes stand there, and nothing changes them during the call.
+        let (image, names) = unsafe {
+            (slice::from_raw_parts(image_at, image.len()), slice::from_raw_parts(names_at, names.len()))
         };
+        let answer = infer_types_into(image, names, *budget, work, tables);
         let lent = (work.len(), tables.len());
         let check = |holds: bool, what: &str| {
             if !holds {
@@ -86,9 +63,9 @@ impl Tests {
             }
         };
         check(answer == expected.answer, "another answer");
-        let left = if answer.is_unrun() { HELD[0] } else { 0 };
+        let left = if is_unrun(&answer) { HELD[0] } else { 0 };
         check(work.iter().all(|&word| word == left), "work words left");
-        let written = if answer.is_done() { answer.table_words as usize } else { 0 };
+        let written = if is_done(&answer) { answer.table_words as usize } else { 0 };
         check(sum(&tables[..written]) == expected.sum, "other tables");
         check(tables[written..].iter().all(|&word| word == HELD[1]), "table words past the tables");
         check(before_work.iter().all(|&word| word == HELD[0]), "words before the work words");
@@ -102,11 +79,11 @@ impl Tests {
         let words = expected.answer.table_words as usize;
         self.run(case, work, words, expected);
         self.run(case, work, words + MORE, expected);
-        if !expected.answer.is_unrun() {
+        if !is_unrun(&expected.answer) {
             self.run(case, work + MORE, words + MORE, expected);
         }
-        if expected.answer.is_done() {
-            let refused = Expected { answer: expected.answer.without_tables(), sum: sum(&[]) };
+        if is_done(&expected.answer) {
+            let refused = Expected { answer: without_tables(expected.answer), sum: sum(&[]) };
             self.run(case, work, words - 1, refused);
         }
     }

@@ -7,7 +7,7 @@ mod functions;
 mod idioms;
 mod instructions;
 
-use host::generate::Valid;
+use host::generate::{any_layout, Valid};
 use host::random::Random;
 use infer_image::parts::*;
 use std::collections::HashMap;
@@ -374,16 +374,7 @@ impl<'a> Writer<'a> {
     // the words
 
     fn lay_out(&mut self) -> Input {
-        let mut layout = self.image.layout();
-        if self.random.percent(50) {
-            self.random.shuffle(&mut layout.tables);
-            self.random.shuffle(&mut layout.bodies);
-        }
-        if self.random.percent(30) {
-            let gap = |random: &mut Random| vec![random.pick(&[0, 1, NONE]); random.pick(&[0, 0, 1, 3])];
-            layout.gaps = (0..8 + layout.bodies.len()).map(|_| gap(self.random)).collect();
-        }
-        let mut input = self.image.write_as(&layout);
+        let mut input = self.image.write_as(&any_layout(self.random, &self.image));
         input.budget = if self.random.percent(95) { 65_536 } else { self.random.below(300) };
         input.lend_enough();
         input
