@@ -1,7 +1,5 @@
 // apply_function: the type of each visited slot is resolved.
-ghost use mathlib.Core.Path.{_≡_};
-ghost use Prim.Native.Nat.{ℕ, _+_, _*_, _≤_, _<_};
-ghost use lib.ListN.{length};
+ghost use Prim.Native.Nat.{ℕ, _+_, _<_};
 ghost use Rattle.image.specs.Image.{word, count};
 ghost use Rattle.image.specs.Program.{program};
 ghost use Rattle.infer.specs.Visits.{visits};

@@ -1,9 +1,7 @@
 // generate: the equations of a function and of those in it, unified as they come.
-ghost use Prim.Native.Nat.{_+_, _*_, _≤_};
-ghost use mathlib.Core.Path.{_≡_};
+ghost use Prim.Native.Nat.{_+_};
 ghost use mathlib.Core.Bool.{false};
 ghost use mathlib.Core.List.{[], _∷_};
-ghost use lib.ListN.{length};
 ghost use Rattle.image.specs.Ty.{FUNCTION, func};
 ghost use Rattle.image.specs.Image.{word, cell as cell-of};
 ghost use Rattle.image.specs.Body.{kind-of};

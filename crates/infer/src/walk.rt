@@ -2,7 +2,7 @@
 ghost use mathlib.Core.Path.{_≡_};
 ghost use Prim.Native.Nat.{_+_, _*_, _≤_, _<_};
 ghost use lib.ListN.{length};
-ghost use Rattle.image.specs.Image.{word, count, cell};
+ghost use Rattle.image.specs.Image.{word, cell};
 ghost use Rattle.image.specs.Laid.{Laid};
 ghost use Rattle.infer.specs.Fitting.{Identifier-at};
 ghost use Rattle.infer.specs.Solving.{Equal-asked, Equates, Made-asked, Equates-made};
