@@ -7,12 +7,3 @@ pub mod Body
 pub mod Nesting
 pub mod Check
 pub mod Program
-pub mod Span
-pub mod Sizes
-pub mod Numbering
-pub mod Blocks
-pub mod Shapes
-pub mod Coded
-pub mod Cursor
-pub mod Marks
-pub mod Answer

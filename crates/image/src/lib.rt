@@ -1,27 +1,9 @@
-// The image: its accessors and the check.
+// The image: its accessors.
 ghost use mathlib.Core.Path.{_≡_};
 ghost use Prim.Native.Nat.{_+_, _≤_, _<_};
 ghost use lib.ListN.{length};
 ghost use Rattle.image.specs.Image.{word, width, header-place, count as count-of, offset as offset-of, cell as cell-of, limits as limits-of, name-at};
 ghost use Rattle.image.specs.Laid.{Laid, In-table, Names-inside};
-
-mod blocks;
-mod body;
-mod header;
-mod instruction;
-mod large;
-mod marks;
-mod nesting;
-mod numbering;
-mod overlap;
-mod reach;
-mod read;
-mod refusals;
-mod shapes;
-mod types;
-
-pub use refusals::check;
-pub use refusals::image_check;
 
 pub const NONE: u32 = 4294967295;
 
@@ -67,7 +49,7 @@ fn header_place(t: Table) -> usize
 }
 
 // The words of a row.
-fn row_words(img: &[u32], t: Table) -> usize
+pub fn row_words(img: &[u32], t: Table) -> usize
     ensures { λ r. ⌜ r ≡ width t (now (img .entry)) ⌝ }
 {
     match t {
@@ -92,7 +74,7 @@ pub fn count(img: &[u32], t: Table) -> u32
 }
 
 // The word at which a table starts.
-fn offset(img: &[u32], t: Table) -> u32
+pub fn offset(img: &[u32], t: Table) -> u32
     requires { ⌜ 20 ≤ length (now img) ⌝ }
     ensures { λ r. ⌜ r ≡ offset-of t (now (img .entry)) ⌝ }
 {
@@ -111,7 +93,7 @@ pub fn cell(img: &[u32], t: Table, n: u32, k: usize) -> u32
 }
 
 // The counts that bound the numbers in a body.
-fn limits_of(img: &[u32]) -> Limits
+pub fn limits_of(img: &[u32]) -> Limits
     requires { ⌜ 20 ≤ length (now img) ⌝ }
     ensures { λ r. ⌜ r ≡ limits-of (now (img .entry)) ⌝ }
 {

@@ -6,17 +6,17 @@ use lib.ListN.{length}
 use Rattle.image.specs.Ty.{Ty}
 use Rattle.image.specs.Image.{outermost}
 use Rattle.image.specs.Program.{Program, program, from-outermost}
-use Rattle.unifier.specs.Log.{Log, lookup}
-use Rattle.unifier.specs.Outcome.{done, refused, Refusal, number-of, and-then}
-use Rattle.unifier.specs.Unify.{unify-all}
-use Rattle.unifier.specs.Lookup.{registry-of}
-use Rattle.unifier.specs.Work.{at, Good, unbound}
-use Rattle.infer.specs.Generate.{generate}
-use Rattle.infer.specs.Generating.{generate-for}
-use Rattle.infer.specs.Visits.{visits, resolve-identifiers}
-use Rattle.infer.specs.Tables.{made-types}
-use Rattle.infer.specs.Infer.{registry, infer-types, refusal, output-of}
-use Rattle.infer.specs.Lent.{put}
+use Rattle.unifier_definition.specs.Log.{Log, lookup}
+use Rattle.unifier_definition.specs.Outcome.{done, refused, Refusal, number-of, and-then}
+use Rattle.unifier_definition.specs.Unify.{unify-all}
+use Rattle.unifier_properties.specs.Lookup.{registry-of}
+use Rattle.unifier_nodes.specs.Work.{at, Good, unbound}
+use Rattle.run_definition.specs.Generate.{generate}
+use Rattle.run_generate.specs.Generating.{generate-for}
+use Rattle.run_definition.specs.Visits.{visits, resolve-identifiers}
+use Rattle.run_definition.specs.Tables.{made-types}
+use Rattle.run_definition.specs.Infer.{registry, infer-types, refusal, output-of}
+use Rattle.run_tables.specs.Lent.{put}
 
 module _ (p : Program) (budget : ℕ) where
   -- the output where the equations are refused

@@ -11,12 +11,12 @@ use Rattle.image.specs.Check.{check}
 use Rattle.image.specs.Program.{program}
 use Rattle.image.proofs.Checked.{laid}
 use Rattle.image.proofs.CheckPassed.{check-passed, work-enough}
-use Rattle.unifier.specs.Work.{at}
-use Rattle.infer.specs.Infer.{infer-types, refusal, output-of, after-check, infer}
-use Rattle.infer.specs.Lent.{put, answer-of, cleared, work-after}
+use Rattle.unifier_nodes.specs.Work.{at}
+use Rattle.run_definition.specs.Infer.{infer-types, refusal, output-of, after-check, infer}
+use Rattle.run_tables.specs.Lent.{put, answer-of, cleared, work-after}
 use Rattle.infer.specs.Entry.{Run-asked, Runs, Infers}
-use Rattle.infer.specs.declared.tables.Answer.{Answer as Answered}
-use Rattle.infer.proofs.Demand.{run-number, tables-sound}
+use Rattle.run_tables.specs.declared.Answer.{Answer as Answered}
+use Rattle.run_definition.proofs.Demand.{run-number, tables-sound}
 use Rattle.infer.proofs.EntryLaws.{put-none}
 
 -- as many words as before

@@ -11,36 +11,36 @@ use Rattle.image.specs.Laid.{Laid}
 use Rattle.image.specs.Program.{Program, program}
 use Rattle.image.proofs.Checked.{laid, identifier-slot, slot-type}
 use Rattle.image.proofs.CheckPassed.{Checked-image}
-use Rattle.unifier.specs.Log.{Log}
-use Rattle.unifier.specs.Outcome.{done}
-use Rattle.unifier.specs.Property.{Registry}
-use Rattle.unifier.specs.Lookup.{registry-of}
-use Rattle.unifier.specs.Unify.{unify-all}
-use Rattle.unifier.specs.Work.{at, Good, Room}
-use Rattle.unifier.proofs.Frames.{good-same}
-use Rattle.infer.specs.Equations.{Generated}
-use Rattle.infer.specs.Generate.{generate}
-use Rattle.infer.specs.Generating.{generate-for}
-use Rattle.infer.specs.Visits.{visits, resolve-identifiers}
-use Rattle.infer.specs.Tables.{made-types, binding-rows, tables-of}
-use Rattle.infer.specs.Infer.{registry, infer-types, refusal, output-of, with-tables}
-use Rattle.infer.specs.Layout.{Prepared, Lays-out}
-use Rattle.infer.specs.Running.{none-logged, Ready, Ran, Generates}
-use Rattle.infer.specs.Lent.{put, answer-of}
-use Rattle.infer.specs.Standing.{Slots-stand, all-types, Resolved-run, Finish-asked, Finishes}
-use Rattle.infer.specs.Applying.{Applying, Applies, Resolved-to}
+use Rattle.unifier_definition.specs.Log.{Log}
+use Rattle.unifier_definition.specs.Outcome.{done}
+use Rattle.unifier_definition.specs.Property.{Registry}
+use Rattle.unifier_properties.specs.Lookup.{registry-of}
+use Rattle.unifier_definition.specs.Unify.{unify-all}
+use Rattle.unifier_nodes.specs.Work.{at, Good, Room}
+use Rattle.unifier_nodes.proofs.Frames.{good-same}
+use Rattle.run_definition.specs.Equations.{Generated}
+use Rattle.run_definition.specs.Generate.{generate}
+use Rattle.run_generate.specs.Generating.{generate-for}
+use Rattle.run_definition.specs.Visits.{visits, resolve-identifiers}
+use Rattle.run_definition.specs.Tables.{made-types, binding-rows, tables-of}
+use Rattle.run_definition.specs.Infer.{registry, infer-types, refusal, output-of, with-tables}
+use Rattle.run_layout.specs.Layout.{Prepared, Lays-out}
+use Rattle.run_walk.specs.Running.{none-logged, Ready, Ran, Generates}
+use Rattle.run_tables.specs.Lent.{put, answer-of}
+use Rattle.run_tables.specs.Standing.{Slots-stand, all-types, Resolved-run, Finish-asked, Finishes}
+use Rattle.run_apply.specs.Applying.{Applying, Applies, Resolved-to}
 use Rattle.infer.specs.Entry.{Run-asked, Runs}
-use Rattle.infer.specs.declared.layout.Layout.{Layout}
-use Rattle.infer.specs.declared.walk.Walk.{Walk}
-use Rattle.infer.specs.declared.apply.Pass.{Pass}
-use Rattle.infer.specs.declared.tables.Answer.{Answer as Answered}
-use Rattle.infer.proofs.ProgramScope.{scoped-program, entries-length}
-use Rattle.infer.proofs.PositionLaws.{entry-poly}
-use Rattle.infer.proofs.PositionsBody.{checked}
-use Rattle.infer.proofs.GenerateScope.{generate-scoped}
-use Rattle.infer.proofs.Finished.{run-finished, finished-length}
-use Rattle.infer.proofs.TableSizes.{finished-words, entries-sized, image-slots}
-use Rattle.infer.proofs.Composing.{Layout-at, layout-at, prepared-after}
+use Rattle.run_layout.specs.declared.Layout.{Layout}
+use Rattle.run_walk.specs.declared.Walk.{Walk}
+use Rattle.run_apply.specs.declared.Pass.{Pass}
+use Rattle.run_tables.specs.declared.Answer.{Answer as Answered}
+use Rattle.run_definition.proofs.ProgramScope.{scoped-program, entries-length}
+use Rattle.run_definition.proofs.PositionLaws.{entry-poly}
+use Rattle.run_definition.proofs.PositionsBody.{checked}
+use Rattle.run_definition.proofs.GenerateScope.{generate-scoped}
+use Rattle.run_definition.proofs.Finished.{run-finished, finished-length}
+use Rattle.run_definition.proofs.TableSizes.{finished-words, entries-sized, image-slots}
+use Rattle.run_walk.proofs.Composing.{Layout-at, layout-at, prepared-after}
 use Rattle.infer.proofs.EntryLaws.{equations-refused, visits-refused, run-done, good-none, registry-is, outermost-gives, put-none}
 
 -- the walk that `run` starts with, and the pass after its equations

@@ -7,12 +7,12 @@ use Rattle.image.specs.declared.Table.the-variants.{Slots}
 use Rattle.image.specs.Image.{count}
 use Rattle.image.specs.Check.{check}
 use Rattle.image.specs.Program.{program}
-use Rattle.unifier.specs.Work.{at}
-use Rattle.infer.specs.Infer.{Output, infer-types, output-of, infer}
-use Rattle.infer.specs.Rules.{Tables-sound, Run-number}
-use Rattle.infer.specs.Fitting.{Passed}
-use Rattle.infer.specs.Lent.{put, answer-of, work-after}
-use Rattle.infer.specs.declared.tables.Answer.{Answer as Answered}
+use Rattle.unifier_nodes.specs.Work.{at}
+use Rattle.run_definition.specs.Infer.{Output, infer-types, output-of, infer}
+use Rattle.run_definition.specs.Rules.{Tables-sound, Run-number}
+use Rattle.run_definition.specs.Fitting.{Passed}
+use Rattle.run_tables.specs.Lent.{put, answer-of, work-after}
+use Rattle.run_tables.specs.declared.Answer.{Answer as Answered}
 
 -- what `run` asks: an image that passed the check, as many work words as that takes, and no slot bound
 pub record Run-asked (img bytes : List ℕ) (budget : ℕ) (w : List ℕ) : Type 0 where

@@ -2,23 +2,14 @@
 ghost use mathlib.Core.Path.{_≡_};
 ghost use Prim.Native.Nat.{_≤_};
 ghost use lib.ListN.{length};
-ghost use Rattle.infer.specs.Infer.{refusal as refusal-of};
-ghost use Rattle.infer.specs.Lent.{answer-of, cleared};
+ghost use Rattle.run_definition.specs.Infer.{refusal as refusal-of};
+ghost use Rattle.run_tables.specs.Lent.{answer-of, cleared};
 ghost use Rattle.infer.specs.Entry.{Run-asked, Runs, Infers};
-
-mod apply;
-mod generate;
-mod instruction;
-mod layout;
-mod naming;
-mod tables;
-mod walk;
-
-use apply::Pass;
 use image::Table;
 use image::count;
-pub use tables::Answer;
-use walk::Walk;
+use run_apply::Pass;
+pub use run_tables::Answer;
+use run_walk::Walk;
 
 fn refusal(number: u32, steps: u32) -> Answer
     ensures { λ r. ⌜ answer-of r ≡ refusal-of number steps 0 .answer ⌝ }
@@ -47,11 +38,11 @@ fn run(img: &[u32], bytes: &[u8], budget: u32, w: &mut [u32], tables: &mut [u32]
     requires { ⌜ Run-asked (now img) (now bytes) budget (now w) ⌝ }
     ensures { λ r. ⌜ Runs (now (img .entry)) (now (bytes .entry)) budget (now (w .entry)) (now (w .exit)) (now (tables .entry)) (now (tables .exit)) r ⌝ }
 {
-    let lay = layout::lay_out(img, w, budget);
+    let lay = run_layout::lay_out(img, w, budget);
     let next = lay.slots;
     let start = lay.top;
     let log = lay.log;
-    let g = generate::generate(
+    let g = run_generate::generate(
         img,
         bytes,
         w,
@@ -71,7 +62,7 @@ fn run(img: &[u32], bytes: &[u8], budget: u32, w: &mut [u32], tables: &mut [u32]
         return refusal(number, budget - left);
     }
     let top = g.top;
-    let a = apply::apply(
+    let a = run_apply::apply(
         img,
         w,
         lay,
@@ -87,7 +78,7 @@ fn run(img: &[u32], bytes: &[u8], budget: u32, w: &mut [u32], tables: &mut [u32]
     if again != 0 {
         return refusal(again, budget - after);
     }
-    tables::finish(w, lay, budget - after, g.next, tables)
+    run_tables::finish(w, lay, budget - after, g.next, tables)
 }
 
 // The image check, and then the run.
@@ -101,7 +92,7 @@ pub extern "C" fn infer_types(
 ) -> Answer
     ensures { λ r. ⌜ Infers (now (image .entry)) (now (names .entry)) budget (now (work .entry)) (now (work .exit)) (now (tables .entry)) (now (tables .exit)) r ⌝ }
 {
-    let number = image::check(image, names, budget, work.len());
+    let number = image_check::check(image, names, budget, work.len());
     if number != 0 {
         return refusal(number, 0);
     }

@@ -10,28 +10,28 @@ use Rattle.image.specs.Ty.{USE-REF, REF-VALUE, Ty, object}
 use Rattle.image.specs.Image.{count, cell, type-at}
 use Rattle.image.specs.Laid.{Laid, In-table}
 use Rattle.image.specs.declared.Table.the-variants.{Types}
-use Rattle.unifier.specs.Log.{Log}
-use Rattle.unifier.specs.Outcome.{out-of-steps, number-of, refused, and-then}
-use Rattle.unifier.specs.Property.{PropertyNameKind, Access, Registry, Rule, exact, star, hook, Found, nothing, found, resolve-property-type, is-ref-access}
-use Rattle.unifier.specs.Resolve.{get}
-use Rattle.unifier.specs.Unify.{unify, unify-found, unify-property}
-use Rattle.unifier.specs.Work.{Rep, Room, Frame}
-use Rattle.unifier.specs.Promises.{Gives, Keeps, Known-both, Binds}
-use Rattle.unifier.specs.Lookup.{registry-of, key-name, found-in, lookup-shape, lookup-number, type-node, Looked-up, Type-placed, Gives-shape}
+use Rattle.unifier_definition.specs.Log.{Log}
+use Rattle.unifier_definition.specs.Outcome.{out-of-steps, number-of, refused, and-then}
+use Rattle.unifier_definition.specs.Property.{PropertyNameKind, Access, Registry, Rule, exact, star, hook, Found, nothing, found, resolve-property-type, is-ref-access}
+use Rattle.unifier_definition.specs.Resolve.{get}
+use Rattle.unifier_definition.specs.Unify.{unify, unify-found, unify-property}
+use Rattle.unifier_nodes.specs.Work.{Rep, Room, Frame}
+use Rattle.unifier_nodes.specs.Promises.{Gives, Keeps, Known-both, Binds}
+use Rattle.unifier_properties.specs.Lookup.{registry-of, key-name, found-in, lookup-shape, lookup-number, type-node, Looked-up, Type-placed, Gives-shape}
 use Rattle.unifier.specs.Accesses.{unify-as-ref, unify-by-name, Types-laid, Refs-laid, Access-asked, Accesses}
 use Rattle.unifier.specs.declared.access.Places.{Places}
-use Rattle.unifier.specs.declared.property.Entry.{Entry}
-use Rattle.unifier.specs.declared.property.Entry.the-variants.{Is, Missing}
-use Rattle.unifier.specs.declared.property.Key.{Key}
-use Rattle.unifier.specs.declared.property.Lookup.{Lookup}
-use Rattle.unifier.specs.declared.property.Lookup.the-variants.{Exact, Star, Hook, Nothing}
-use Rattle.unifier.specs.declared.resolve.Got.{Got}
-use Rattle.unifier.specs.declared.resolve.State.{State}
-use Rattle.unifier.proofs.Frames.{rep-same, rep-low, good-same, frame-from, room-left}
+use Rattle.unifier_properties.specs.declared.Entry.{Entry}
+use Rattle.unifier_properties.specs.declared.Entry.the-variants.{Is, Missing}
+use Rattle.unifier_properties.specs.declared.Key.{Key}
+use Rattle.unifier_properties.specs.declared.Lookup.{Lookup}
+use Rattle.unifier_properties.specs.declared.Lookup.the-variants.{Exact, Star, Hook, Nothing}
+use Rattle.unifier_nodes.specs.declared.state.Got.{Got}
+use Rattle.unifier_nodes.specs.declared.state.State.{State}
+use Rattle.unifier_nodes.proofs.Frames.{rep-same, rep-low, good-same, frame-from, room-left}
 use Rattle.unifier.proofs.Binding.{restated, keeps-still, keeps-trans, keeps-charged, unifies-done, unifies-refused, unifies-as}
-use Rattle.unifier.proofs.Getting.{refuses-then}
+use Rattle.unifier_nodes.proofs.Getting.{refuses-then}
 use Rattle.unifier.proofs.Checked.{after, room-fits, room-less}
-use Rattle.unifier.proofs.Lookups.{lookup-by-shape}
+use Rattle.unifier_properties.proofs.Lookups.{lookup-by-shape}
 
 -- the node of a type whose row has this kind
 module _ (img : List ℕ) (types n : ℕ) {kind : ℕ} (e : kind ≡ cell Types img n 0) where

@@ -7,15 +7,15 @@ use lib.Dec.{eqb}
 use lib.ListN.{length, set, length-set}
 use borrow.Author.Tests.{eqb-true, eqb-false}
 use Rattle.image.specs.Ty.{Ty}
-use Rattle.unifier.specs.Log.{Log, lookup, insert}
-use Rattle.unifier.specs.Outcome.{Refusal, empty-phi, cycle, out-of-steps, number-of, Outcome, done, refused, and-then}
-use Rattle.unifier.specs.Work.{at, Rep, bound, Good, Room, Frame}
-use Rattle.unifier.specs.Walks.{Refuses, Unifies}
-use Rattle.unifier.specs.Promises.{Keeps}
-use Rattle.unifier.specs.declared.resolve.State.{State}
-use Rattle.unifier.proofs.Words.{at-same, at-other}
-use Rattle.unifier.proofs.Frames.{Same, rep-same, bound-same, frame-refl, frame-trans, room-left}
-use Rattle.unifier.proofs.Outcomes.{by-bool}
+use Rattle.unifier_definition.specs.Log.{Log, lookup, insert}
+use Rattle.unifier_definition.specs.Outcome.{Refusal, empty-phi, cycle, out-of-steps, number-of, Outcome, done, refused, and-then}
+use Rattle.unifier_nodes.specs.Work.{at, Rep, bound, Good, Room, Frame}
+use Rattle.unifier_nodes.specs.Walks.{Refuses, Unifies}
+use Rattle.unifier_nodes.specs.Promises.{Keeps}
+use Rattle.unifier_nodes.specs.declared.state.State.{State}
+use Rattle.unifier_nodes.proofs.Words.{at-same, at-other}
+use Rattle.unifier_nodes.proofs.Frames.{Same, rep-same, bound-same, frame-refl, frame-trans, room-left}
+use Rattle.unifier_definition.proofs.Outcomes.{by-bool}
 
 -- the state with other steps left and another number
 abbrev pub restated : State → ℕ → ℕ → State

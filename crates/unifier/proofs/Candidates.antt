@@ -7,20 +7,20 @@ use Prim.Native.Nat.{ℕ, _+_, _≤_, _<_}
 use native.Mathlib.Omega.{arith}
 use lib.ListN.{length}
 use Rattle.image.specs.Ty.{Ty, Tys, nil, cons, count-of}
-use Rattle.unifier.specs.Equal.{type-equals}
-use Rattle.unifier.specs.Log.{Log}
-use Rattle.unifier.specs.Outcome.{Outcome, done, refused, and-then}
-use Rattle.unifier.specs.Resolve.{get}
-use Rattle.unifier.specs.Unify.{candidate-type}
-use Rattle.unifier.specs.Work.{at, Rep, Reps, reps-nil, reps-cons, Good, Room, Frame, Paid}
-use Rattle.unifier.specs.Walks.{Known}
-use Rattle.unifier.specs.Promises.{Stand-both, Equals, Unites, Gives}
+use Rattle.unifier_definition.specs.Equal.{type-equals}
+use Rattle.unifier_definition.specs.Log.{Log}
+use Rattle.unifier_definition.specs.Outcome.{Outcome, done, refused, and-then}
+use Rattle.unifier_definition.specs.Resolve.{get}
+use Rattle.unifier_definition.specs.Unify.{candidate-type}
+use Rattle.unifier_nodes.specs.Work.{at, Rep, Reps, reps-nil, reps-cons, Good, Room, Frame, Paid}
+use Rattle.unifier_nodes.specs.Walks.{Known}
+use Rattle.unifier_nodes.specs.Promises.{Stand-both, Equals, Unites, Gives}
 use Rattle.unifier.specs.Choices.{Known-rest, Chooses}
-use Rattle.unifier.specs.declared.node.Candidate.the-variants.{Found, Nothing}
-use Rattle.unifier.specs.declared.resolve.Got.{Got}
-use Rattle.unifier.specs.declared.resolve.State.{State}
-use Rattle.unifier.proofs.Frames.{rep-same, reps-same, good-same, frame-refl, frame-trans, room-left}
-use Rattle.unifier.proofs.Getting.{refuses-then}
+use Rattle.unifier_nodes.specs.declared.node.Candidate.the-variants.{Found, Nothing}
+use Rattle.unifier_nodes.specs.declared.state.Got.{Got}
+use Rattle.unifier_nodes.specs.declared.state.State.{State}
+use Rattle.unifier_nodes.proofs.Frames.{rep-same, reps-same, good-same, frame-refl, frame-trans, room-left}
+use Rattle.unifier_nodes.proofs.Getting.{refuses-then}
 use Rattle.unifier.proofs.Checked.{after}
 
 -- the first of some operands, and those after it

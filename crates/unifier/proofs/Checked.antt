@@ -6,20 +6,20 @@ use Prim.Native.Nat.{ℕ, _+_, _^_, _≤_, _<_}
 use native.Mathlib.Omega.{arith}
 use lib.ListN.{length, set}
 use Rattle.image.specs.Ty.{Ty}
-use Rattle.unifier.specs.Log.{Log, insert, mentions}
-use Rattle.unifier.specs.Outcome.{cycle, out-of-steps, number-of, done, refused, and-then}
-use Rattle.unifier.specs.Resolve.{Resolved, try-resolve-type}
-use Rattle.unifier.specs.Unify.{bind-resolved, bind-checked}
-use Rattle.unifier.specs.Work.{Rep, Good, Room}
-use Rattle.unifier.specs.Walks.{Known, Stands}
-use Rattle.unifier.specs.Promises.{Tells-mention, Readable, Checks, Rewrites, Keeps}
+use Rattle.unifier_definition.specs.Log.{Log, insert, mentions}
+use Rattle.unifier_definition.specs.Outcome.{cycle, out-of-steps, number-of, done, refused, and-then}
+use Rattle.unifier_definition.specs.Resolve.{Resolved, try-resolve-type}
+use Rattle.unifier_definition.specs.Unify.{bind-resolved, bind-checked}
+use Rattle.unifier_nodes.specs.Work.{Rep, Good, Room}
+use Rattle.unifier_nodes.specs.Walks.{Known, Stands}
+use Rattle.unifier_nodes.specs.Promises.{Tells-mention, Readable, Checks, Rewrites, Keeps}
 use Rattle.unifier.specs.Choices.{Binds-slot}
-use Rattle.unifier.specs.declared.resolve.Got.{Got}
-use Rattle.unifier.specs.declared.resolve.State.{State}
-use Rattle.unifier.specs.declared.resolve.Occurs.the-variants.{Spent, Yes, No}
-use Rattle.unifier.proofs.Frames.{rep-low, room-left}
+use Rattle.unifier_nodes.specs.declared.state.Got.{Got}
+use Rattle.unifier_nodes.specs.declared.state.State.{State}
+use Rattle.unifier_nodes.specs.declared.state.Occurs.the-variants.{Spent, Yes, No}
+use Rattle.unifier_nodes.proofs.Frames.{rep-low, room-left}
 use Rattle.unifier.proofs.Binding.{restated, put-good, keeps-still, keeps-trans, keeps-charged, keeps-put, unifies-done, unifies-refused, unifies-as}
-use Rattle.unifier.proofs.Getting.{refuses-then}
+use Rattle.unifier_nodes.proofs.Getting.{refuses-then}
 
 -- what is known lies in the work words
 pub room-fits : {w : List ℕ} {top left stack : ℕ} → Room w top left stack → (top ≤ stack) × (top ≤ length w)

@@ -6,24 +6,24 @@ use Prim.Native.Nat.{ℕ, _+_, _≤_, _<_}
 use native.Mathlib.Omega.{arith}
 use lib.ListN.{length}
 use Rattle.image.specs.Ty.{Ty, var, phi, Tys, nil, cons, count-of}
-use Rattle.unifier.specs.Cases.{as-var, as-phi}
-use Rattle.unifier.specs.Log.{Log}
-use Rattle.unifier.specs.Outcome.{empty-phi, number-of, done, refused, and-then}
-use Rattle.unifier.specs.Resolve.{get}
-use Rattle.unifier.specs.Unify.{candidate-type, bind-checked, bind-phi, binding-of, bind-unbound, unify}
-use Rattle.unifier.specs.Work.{at, Rep, rep-var, Reps, Good}
-use Rattle.unifier.specs.Walks.{Known, Reads-node}
-use Rattle.unifier.specs.Promises.{Candidate-is, Gives, Keeps, Known-both, Binds}
+use Rattle.unifier_definition.specs.Cases.{as-var, as-phi}
+use Rattle.unifier_definition.specs.Log.{Log}
+use Rattle.unifier_definition.specs.Outcome.{empty-phi, number-of, done, refused, and-then}
+use Rattle.unifier_definition.specs.Resolve.{get}
+use Rattle.unifier_definition.specs.Unify.{candidate-type, bind-checked, bind-phi, binding-of, bind-unbound, unify}
+use Rattle.unifier_nodes.specs.Work.{at, Rep, rep-var, Reps, Good}
+use Rattle.unifier_nodes.specs.Walks.{Known, Reads-node}
+use Rattle.unifier_nodes.specs.Promises.{Candidate-is, Gives, Keeps, Known-both, Binds}
 use Rattle.unifier.specs.Choices.{Binds-slot, Known-rest, Chooses}
 use Rattle.unifier.specs.declared.bind.Chosen.{Chosen}
-use Rattle.unifier.specs.declared.node.Candidate.{Candidate}
-use Rattle.unifier.specs.declared.node.Candidate.the-variants.{Found, Nothing}
-use Rattle.unifier.specs.declared.node.Node.the-variants.{Phi}
-use Rattle.unifier.specs.declared.resolve.Got.{Got}
-use Rattle.unifier.specs.declared.resolve.State.{State}
-use Rattle.unifier.proofs.Frames.{rep-same, reps-same, good-same, frame-from}
+use Rattle.unifier_nodes.specs.declared.node.Candidate.{Candidate}
+use Rattle.unifier_nodes.specs.declared.node.Candidate.the-variants.{Found, Nothing}
+use Rattle.unifier_nodes.specs.declared.node.Node.the-variants.{Phi}
+use Rattle.unifier_nodes.specs.declared.state.Got.{Got}
+use Rattle.unifier_nodes.specs.declared.state.State.{State}
+use Rattle.unifier_nodes.proofs.Frames.{rep-same, reps-same, good-same, frame-from}
 use Rattle.unifier.proofs.Binding.{restated, keeps-still, keeps-trans, unifies-refused, unifies-as}
-use Rattle.unifier.proofs.Getting.{refuses-then}
+use Rattle.unifier_nodes.proofs.Getting.{refuses-then}
 use Rattle.unifier.proofs.Checked.{after}
 use Rattle.unifier.proofs.Candidates.{operand}
 

@@ -11,24 +11,24 @@ use denote.Enum.Declared.{tagOf}
 use types.Run.{OneOf, miss}
 use Rattle.image.specs.Ty.{Ty, var, func, function-kind}
 use Rattle.image.specs.declared.TypeId.{TypeId}
-use Rattle.unifier.specs.Cases.{type-kind, is-poly, as-var, as-function, as-phi}
-use Rattle.unifier.specs.Equal.{type-equals}
-use Rattle.unifier.specs.Log.{Log, lookup}
-use Rattle.unifier.specs.Outcome.{out-of-steps, number-of, done, refused}
-use Rattle.unifier.specs.Unify.{bind-checked, binding-of, bind-unbound, bind-slot, bind-body, unify-functions, unify-body, unify, bind-variable-to}
-use Rattle.unifier.specs.Work.{at, Leaf, leaf-prim, leaf-poly, leaf-method, leaf-object, Rep, rep-var, rep-leaf, rep-func, rep-phi, Bound, unbound, bound, Good}
-use Rattle.unifier.specs.Walks.{Known, Reads-node, Tells-kind, Unifies}
-use Rattle.unifier.specs.Promises.{Stand-both, Equals, Keeps, Known-both, Binds, Unifies-nodes}
+use Rattle.unifier_definition.specs.Cases.{type-kind, is-poly, as-var, as-function, as-phi}
+use Rattle.unifier_definition.specs.Equal.{type-equals}
+use Rattle.unifier_definition.specs.Log.{Log, lookup}
+use Rattle.unifier_definition.specs.Outcome.{out-of-steps, number-of, done, refused}
+use Rattle.unifier_definition.specs.Unify.{bind-checked, binding-of, bind-unbound, bind-slot, bind-body, unify-functions, unify-body, unify, bind-variable-to}
+use Rattle.unifier_nodes.specs.Work.{at, Leaf, leaf-prim, leaf-poly, leaf-method, leaf-object, Rep, rep-var, rep-leaf, rep-func, rep-phi, Bound, unbound, bound, Good}
+use Rattle.unifier_nodes.specs.Walks.{Known, Reads-node, Tells-kind, Unifies}
+use Rattle.unifier_nodes.specs.Promises.{Stand-both, Equals, Keeps, Known-both, Binds, Unifies-nodes}
 use Rattle.unifier.specs.Choices.{Binds-slot, unify-as-functions}
-use Rattle.unifier.specs.declared.node.Node.{Node}
-use Rattle.unifier.specs.declared.node.Node.the-variants.{Var, Primitive, Poly, ObjectMethod, Object, Function, Phi}
-use Rattle.unifier.specs.declared.resolve.State.{State}
-use Rattle.unifier.proofs.node.Node.{the-type}
-use Rattle.unifier.proofs.Nodes.{is-var}
-use Rattle.unifier.proofs.Fuel.{unify-none, unify-unfold, bind-variable-to-none, bind-variable-to-unfold}
+use Rattle.unifier_nodes.specs.declared.node.Node.{Node}
+use Rattle.unifier_nodes.specs.declared.node.Node.the-variants.{Var, Primitive, Poly, ObjectMethod, Object, Function, Phi}
+use Rattle.unifier_nodes.specs.declared.state.State.{State}
+use Rattle.unifier_nodes.proofs.node.Node.{the-type}
+use Rattle.unifier_nodes.proofs.Nodes.{is-var}
+use Rattle.unifier_definition.proofs.Fuel.{unify-none, unify-unfold, bind-variable-to-none, bind-variable-to-unfold}
 use Rattle.unifier.proofs.Binding.{restated, keeps-still, keeps-charged, unifies-done, unifies-refused, unifies-as}
-use Rattle.unifier.proofs.Getting.{is-free, is-bound}
-use Rattle.unifier.proofs.Equalities.{No-function, no-function}
+use Rattle.unifier_nodes.proofs.Getting.{is-free, is-bound}
+use Rattle.unifier_nodes.proofs.Equalities.{No-function, no-function}
 
 -- the tags of a node that is no Var, and of one that is neither a Var nor a Phi
 abbrev pub No-var : Node → Type 0

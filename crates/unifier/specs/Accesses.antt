@@ -6,17 +6,17 @@ use mathlib.Core.List.{List}
 use Rattle.image.specs.Ty.{USE-REF, REF-VALUE, Ty, object}
 use Rattle.image.specs.Image.{count, type-at}
 use Rattle.image.specs.declared.Table.the-variants.{Types}
-use Rattle.unifier.specs.Log.{Log}
-use Rattle.unifier.specs.Outcome.{Outcome, and-then}
-use Rattle.unifier.specs.Property.{PropertyNameKind, Access, Registry, resolve-property-type, is-ref-access}
-use Rattle.unifier.specs.Unify.{unify, unify-found, unify-property}
-use Rattle.unifier.specs.Work.{Rep, Good, Room}
-use Rattle.unifier.specs.Walks.{Unifies}
-use Rattle.unifier.specs.Promises.{Keeps, Known-both}
-use Rattle.unifier.specs.Lookup.{registry-of, key-name, type-node, Registry-inside, Key-inside}
+use Rattle.unifier_definition.specs.Log.{Log}
+use Rattle.unifier_definition.specs.Outcome.{Outcome, and-then}
+use Rattle.unifier_definition.specs.Property.{PropertyNameKind, Access, Registry, resolve-property-type, is-ref-access}
+use Rattle.unifier_definition.specs.Unify.{unify, unify-found, unify-property}
+use Rattle.unifier_nodes.specs.Work.{Rep, Good, Room}
+use Rattle.unifier_nodes.specs.Walks.{Unifies}
+use Rattle.unifier_nodes.specs.Promises.{Keeps, Known-both}
+use Rattle.unifier_properties.specs.Lookup.{registry-of, key-name, type-node, Registry-inside, Key-inside}
 use Rattle.unifier.specs.declared.access.Places.{Places}
-use Rattle.unifier.specs.declared.property.Key.{Key}
-use Rattle.unifier.specs.declared.resolve.State.{State}
+use Rattle.unifier_properties.specs.declared.Key.{Key}
+use Rattle.unifier_nodes.specs.declared.state.State.{State}
 
 -- `unify` of t with a Property of an object of type u, where it is a ref access
 abbrev pub unify-as-ref : Log → ℕ → Ty → Ty → Outcome Log

@@ -4,15 +4,15 @@ use mathlib.Core.Path.{_≡_}
 use mathlib.Core.Option.{Option}
 use mathlib.Core.List.{List}
 use Rattle.image.specs.Ty.{Ty, Tys, count-of}
-use Rattle.unifier.specs.Cases.{as-function}
-use Rattle.unifier.specs.Log.{Log}
-use Rattle.unifier.specs.Outcome.{Outcome, done}
-use Rattle.unifier.specs.Unify.{candidate-type, unify, unify-functions}
-use Rattle.unifier.specs.Work.{Rep, Reps, Good, Frame, Paid}
-use Rattle.unifier.specs.Walks.{Refuses, Unifies}
-use Rattle.unifier.specs.Promises.{Candidate-is, Keeps}
+use Rattle.unifier_definition.specs.Cases.{as-function}
+use Rattle.unifier_definition.specs.Log.{Log}
+use Rattle.unifier_definition.specs.Outcome.{Outcome, done}
+use Rattle.unifier_definition.specs.Unify.{candidate-type, unify, unify-functions}
+use Rattle.unifier_nodes.specs.Work.{Rep, Reps, Good, Frame, Paid}
+use Rattle.unifier_nodes.specs.Walks.{Refuses, Unifies}
+use Rattle.unifier_nodes.specs.Promises.{Candidate-is, Keeps}
 use Rattle.unifier.specs.declared.bind.Chosen.{Chosen}
-use Rattle.unifier.specs.declared.resolve.State.{State}
+use Rattle.unifier_nodes.specs.declared.state.State.{State}
 
 -- the promise of a function on a log, a slot and a node that is this function of the definition
 pub record Binds-slot (f : Log → ℕ → ℕ → Ty → Outcome Log) (w w′ : List ℕ) (lo : ℕ) (st : State) (slot n : ℕ) (r : State) : Type 0 where

@@ -1,14 +1,2 @@
-pub mod Cases
-pub mod Equal
-pub mod Log
-pub mod Leads
-pub mod Outcome
-pub mod Property
-pub mod Resolve
-pub mod Unify
-pub mod Work
-pub mod Walks
-pub mod Promises
 pub mod Choices
-pub mod Lookup
 pub mod Accesses

@@ -1,20 +1,20 @@
 // unify with a Property on the right.
 ghost use mathlib.Core.Path.{_≡_};
-ghost use Rattle.unifier.specs.Work.{Room};
-ghost use Rattle.unifier.specs.Promises.{Known-both, Binds};
-ghost use Rattle.unifier.specs.Lookup.{registry-of, key-name, lookup-number, type-node, Type-placed};
+ghost use Rattle.unifier_nodes.specs.Work.{Room};
+ghost use Rattle.unifier_nodes.specs.Promises.{Known-both, Binds};
+ghost use Rattle.unifier_properties.specs.Lookup.{registry-of, key-name, lookup-number, type-node, Type-placed};
 ghost use Rattle.unifier.specs.Accesses.{unify-as-ref, unify-by-name, Refs-laid, Access-asked, Accesses};
 use crate::bind::refuse;
 use crate::bind::unify;
-use crate::property::Entry;
-use crate::property::Key;
-use crate::property::Lookup;
-use crate::property::resolve_property_type;
-use crate::property::shape_of;
-use crate::resolve::State;
-use crate::resolve::get;
 use image::Table;
 use image::cell;
+use unifier_nodes::state::State;
+use unifier_properties::Entry;
+use unifier_properties::Key;
+use unifier_properties::Lookup;
+use unifier_properties::resolve_property_type;
+use unifier_properties::shape_of;
+use unifier_resolve::get;
 
 // Where the nodes start; the first node of the image's types; the nodes of the Objects of shapes USE_REF and REF_VALUE.
 pub struct Places {

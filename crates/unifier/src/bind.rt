@@ -1,25 +1,25 @@
 // unify and bind_variable_to.
 ghost use mathlib.Core.Path.{_≡_};
 ghost use Prim.Native.Nat.{_<_, _-_};
-ghost use Rattle.unifier.specs.Work.{Room};
-ghost use Rattle.unifier.specs.Walks.{Known, Reads-node};
-ghost use Rattle.unifier.specs.Promises.{Known-both, Binds, Unifies-nodes};
+ghost use Rattle.unifier_nodes.specs.Work.{Room};
+ghost use Rattle.unifier_nodes.specs.Walks.{Known, Reads-node};
+ghost use Rattle.unifier_nodes.specs.Promises.{Known-both, Binds, Unifies-nodes};
 ghost use Rattle.unifier.specs.Choices.{Binds-slot, unify-as-functions, Known-rest, Chooses};
-ghost use Rattle.unifier.specs.Unify.{unify as unify-types, bind-variable-to, bind-unbound, bind-checked, bind-resolved};
-ghost use Rattle.unifier.specs.declared.node.Node.the-variants.{Phi};
-use crate::node::Candidate;
-use crate::node::Node;
-use crate::node::kind_of;
-use crate::node::mentions;
-use crate::node::node_at;
-use crate::node::try_union_types;
-use crate::node::type_equals;
-use crate::resolve::Occurs;
-use crate::resolve::State;
-use crate::resolve::get;
-use crate::resolve::occurs_check;
-use crate::resolve::try_resolve_type;
+ghost use Rattle.unifier_definition.specs.Unify.{unify as unify-types, bind-variable-to, bind-unbound, bind-checked, bind-resolved};
+ghost use Rattle.unifier_nodes.specs.declared.node.Node.the-variants.{Phi};
 use image::TypeId;
+use unifier_nodes::node::Candidate;
+use unifier_nodes::node::Node;
+use unifier_nodes::node::kind_of;
+use unifier_nodes::node::mentions;
+use unifier_nodes::node::node_at;
+use unifier_nodes::node::try_union_types;
+use unifier_nodes::node::type_equals;
+use unifier_nodes::state::Occurs;
+use unifier_nodes::state::State;
+use unifier_resolve::get;
+use unifier_resolve::occurs_check;
+use unifier_resolve::try_resolve_type;
 
 // The state with these steps left, and this number.
 pub fn refuse(st: State, left: u32, number: u32) -> State

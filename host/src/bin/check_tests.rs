@@ -12,7 +12,7 @@ use host::{corpus, damage, edges, generate, hostile, plain, report};
 use std::slice;
 use std::time::Duration;
 
-#[link(name = "image", kind = "static")]
+#[link(name = "image_check", kind = "static")]
 extern "C" {
     fn image_check(
         image: *const u32,

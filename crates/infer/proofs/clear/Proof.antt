@@ -5,7 +5,7 @@ use lib.ListN.{length, replicate, drop}
 use borrow.Author.Fill.{fill-none, fill-more}
 use borrow.Author.Needs.{needs}
 use native.Mathlib.Omega.{arith}
-use Rattle.infer.specs.Lent.{cleared}
+use Rattle.run_tables.specs.Lent.{cleared}
 use Rattle.infer.proofs.clear.Statement.{statement}
 use Rattle.infer.proofs.clear.Tie as tie
 

@@ -1,6 +1,6 @@
 use mathlib.Core.Path.{refl}
-use Rattle.infer.specs.Infer.{refusal}
-use Rattle.infer.specs.Lent.{answer-of}
+use Rattle.run_definition.specs.Infer.{refusal}
+use Rattle.run_tables.specs.Lent.{answer-of}
 use Rattle.infer.proofs.refusal.Statement.{statement}
 use Rattle.infer.proofs.refusal.Tie as tie
 

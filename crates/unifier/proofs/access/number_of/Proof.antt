@@ -1,5 +1,5 @@
 use borrow.Author.Needs.{needs}
-use Rattle.unifier.specs.Lookup.{lookup-number}
+use Rattle.unifier_properties.specs.Lookup.{lookup-number}
 use Rattle.unifier.proofs.access.number_of.Statement.{statement}
 use Rattle.unifier.proofs.access.number_of.Tie as tie
 

@@ -1,6 +1,6 @@
 use mathlib.Core.Path.{refl}
 use borrow.Author.Needs.{needs}
-use Rattle.unifier.proofs.Getting.{known-stands, room-charged}
+use Rattle.unifier_nodes.proofs.Getting.{known-stands, room-charged}
 use Rattle.unifier.proofs.Unifying.{known-right}
 use Rattle.unifier.proofs.Accesses.{found-inside, found-known, found-nothing, found-type, asked-fits, asked-placed}
 use Rattle.unifier.proofs.access.unify_found.Statement.{statement}

@@ -1,5 +1,5 @@
 use mathlib.Core.Path.{_∙_}
-use Rattle.unifier.proofs.Getting.{room-charged}
+use Rattle.unifier_nodes.proofs.Getting.{room-charged}
 use Rattle.unifier.proofs.Binding.{keeps-room}
 use Rattle.unifier.proofs.Accesses.{ref-asked, ref-refused, ref-known, ref-both}
 use Rattle.unifier.proofs.access.unify_ref.Statement.{statement}

@@ -2,10 +2,10 @@ use borrow.Author.Needs.{needs}
 use native.Mathlib.Omega.{arith}
 use mathlib.Core.Path.{refl, _∙_}
 use Prim.Native.Nat.{ℕ, _<_, _+_, _*_, _-_}
-use Rattle.unifier.proofs.Frames.{room-left}
+use Rattle.unifier_nodes.proofs.Frames.{room-left}
 use Rattle.unifier.proofs.Binding.{keeps-room}
 use Rattle.unifier.proofs.Checked.{room-fits, room-less, known-low}
-use Rattle.unifier.proofs.Getting.{known-stands, room-charged}
+use Rattle.unifier_nodes.proofs.Getting.{known-stands, room-charged}
 use Rattle.unifier.proofs.Unifying.{unify-spent, unify-same, unify-left, unify-right, unify-neither, functions-first, functions-second, functions-differ, functions-same, known-returns, bind-spent, bind-no-var, bind-poly, bind-bound, bind-free, unbound-bound, unbound-free, unbound-plain, known-left, known-right, known-swap, stand-both, var-low, known-bound, known-slot-bound}
 use Rattle.unifier.proofs.Phis.{operand-known, phi-empty, phi-spent, first-known, chooses-keeps, phi-stopped, phi-found, found-known, phi-none, none-known}
 use borrow.Fn.Kinds.{In}
@@ -28,10 +28,10 @@ use Rattle.unifier.proofs.bind.+bind_phi+bind_unbound+bind_variable_to+
 use Rattle.unifier.proofs.bind.bind_checked.Reads as bind-checked-reads
 use Rattle.unifier.proofs.bind.phi_candidate.Reads as phi-candidate-reads
 use Rattle.unifier.proofs.bind.refuse.Reads as refuse-reads
-use Rattle.unifier.proofs.node.kind_of.Reads as kind-of-reads
-use Rattle.unifier.proofs.node.node_at.Reads as node-at-reads
-use Rattle.unifier.proofs.node.type_equals.Reads as type-equals-reads
-use Rattle.unifier.proofs.resolve.get.Reads as get-reads
+use Rattle.unifier_nodes.proofs.node.kind_of.Reads as kind-of-reads
+use Rattle.unifier_nodes.proofs.node.node_at.Reads as node-at-reads
+use Rattle.unifier_nodes.proofs.node.type_equals.Reads as type-equals-reads
+use Rattle.unifier_resolve.proofs.get.Reads as get-reads
 use Rattle.unifier.proofs.bind.+bind_phi+bind_unbound+bind_variable_to+unify+unify_functions.{
   statement,
 }

@@ -1,7 +1,7 @@
 use native.Mathlib.Omega.{arith}
 use borrow.Author.Needs.{needs}
 use Rattle.unifier.proofs.Checked.{room-fits, known-low, room-less, yes-fewer, no-fewer, checked-spent, checked-yes, checked-no}
-use Rattle.unifier.proofs.Occurring.{known-readable}
+use Rattle.unifier_resolve.proofs.Occurring.{known-readable}
 use Rattle.unifier.proofs.bind.bind_checked.Statement.{statement}
 use Rattle.unifier.proofs.bind.bind_checked.Tie as tie
 

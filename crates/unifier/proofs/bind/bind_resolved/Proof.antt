@@ -1,7 +1,7 @@
 use native.Mathlib.Omega.{arith}
 use borrow.Author.Needs.{needs}
 use Rattle.unifier.proofs.Checked.{room-fits, known-low, rewrites-known, rewrites-room, resolved-spent, resolved-cycle, resolved-put}
-use Rattle.unifier.proofs.Getting.{known-stands}
+use Rattle.unifier_nodes.proofs.Getting.{known-stands}
 use Rattle.unifier.proofs.bind.bind_resolved.Statement.{statement}
 use Rattle.unifier.proofs.bind.bind_resolved.Tie as tie
 

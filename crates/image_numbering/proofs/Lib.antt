@@ -1,0 +1,10 @@
+pub mod Linking
+pub mod Chaining
+pub mod Pairing
+pub mod Filled
+pub mod Doubling
+pub mod Ending
+pub mod Levels
+pub mod Distinct
+pub mod Spreading
+pub mod Reaching

@@ -1,0 +1,3 @@
+pub mod ApplyLaws
+pub mod ApplyLoops
+pub mod ApplyParts

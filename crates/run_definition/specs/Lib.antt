@@ -1,0 +1,12 @@
+pub mod Items
+pub mod Equations
+pub mod Generate
+pub mod Visits
+pub mod Tables
+pub mod Infer
+pub mod Rules
+pub mod Position
+pub mod Fitting
+pub mod Compute
+pub mod Sketch
+pub mod Rows

@@ -1,0 +1,1 @@
+// The definition of the run and its laws, without code.

@@ -1,0 +1,2 @@
+pub mod InstructionEquations
+pub mod FunctionEquations

@@ -1,0 +1,4 @@
+pub mod Accessing
+pub mod Logging
+pub mod NameLogs
+pub mod Patterns

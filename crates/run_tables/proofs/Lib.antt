@@ -1,0 +1,4 @@
+pub mod Sinks
+pub mod Emitting
+pub mod EmittedRows
+pub mod Finishing

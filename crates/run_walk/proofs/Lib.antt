@@ -1,0 +1,3 @@
+pub mod Composing
+pub mod Equating
+pub mod Standing

@@ -1,0 +1,16 @@
+pub mod Outcomes
+pub mod Mentioned
+pub mod Resolving
+pub mod Acyclic
+pub mod Logs
+pub mod Kept
+pub mod GetLaws
+pub mod CasesLaws
+pub mod Tried
+pub mod OccursLaws
+pub mod ResolveLaws
+pub mod BindLaws
+pub mod UnifyLaws
+pub mod Fuel
+pub mod PropertyLaws
+pub mod RunLaws

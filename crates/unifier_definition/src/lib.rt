@@ -1,0 +1,1 @@
+// The definition of the unifier and its laws, without code.

@@ -1,0 +1,7 @@
+pub mod Frames
+pub mod Words
+pub mod Nodes
+pub mod Equalities
+pub mod Getting
+pub mod GetOperands
+pub mod Mentioning

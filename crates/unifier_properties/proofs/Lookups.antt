@@ -1,0 +1,278 @@
+-- The property lookup: entries among property rows, hook names, shapes by number. Assumes nothing.
+use mathlib.Core.Path.{_≡_, refl, sym, ap, _∙_, subst}
+use mathlib.Core.Bool.{Bool, true, false, and-false}
+use mathlib.Core.List.{List, [], _∷_, _++_}
+use mathlib.Core.Option.{Option, none, some}
+use Prim.Native.Nat.{ℕ, zero, suc, _+_, _-_, _/_, _%_, _≤_, _<_}
+use native.Mathlib.Omega.{arith}
+use native.Mathlib.Numerals.{add-one}
+use lib.ListN.{getD, take, replicate}
+use lib.Seq.{take-at}
+use lib.Dec.{ltb}
+use borrow.Author.Tests.{eq-eqb, ne-eqb, ltb-true}
+use Rattle.names.specs.Names.{same, starts-with, use-bytes, is-hook-name}
+use Rattle.names.specs.Digits.{decimal, digits, Written}
+use Rattle.image.specs.Ty.{NONE, Ty}
+use Rattle.image.specs.declared.Table.{Table}
+use Rattle.image.specs.declared.Table.the-variants.{Names, Types, Shapes, Properties}
+use Rattle.image.specs.Image.{count, cell, word, name-at, type-at, hook-type, Property, property-at, properties-from, shape-at}
+use Rattle.image.specs.Laid.{In-table}
+use Rattle.image.specs.Program.{tabulate, tabulate-from}
+use Rattle.unifier_definition.specs.Cases.{shape-of}
+use Rattle.unifier_definition.specs.Property.{star-bytes, PropertyNameKind, string, number, computed, Registry, Rule, exact, star, nothing, found, or-else, entry, by-entry, by-hook-type, hook-rule, on-registered, on-shape, resolve-property-type}
+use Rattle.unifier_properties.specs.Lookup.{registry-of, key-name, entry-number, found-in, lookup-shape, hook-found, Looked-up, Types-inside, Rows-inside, Key-inside, Lookup-asked, Gives-shape}
+use Rattle.unifier_nodes.specs.Walks.{Reads-node}
+use Rattle.unifier_nodes.specs.declared.node.Node.{Node}
+use Rattle.unifier_nodes.specs.declared.node.Node.the-variants.{Var, Primitive, Poly, ObjectMethod, Object, Function, Phi}
+use Rattle.unifier_properties.specs.declared.Key.{Key}
+use Rattle.unifier_properties.specs.declared.Key.the-variants.{String, Position, Number, Computed}
+use Rattle.unifier_properties.specs.declared.Entry.{Entry}
+use Rattle.unifier_properties.specs.declared.Entry.the-variants.{Is, Missing}
+use Rattle.unifier_properties.specs.declared.Lookup.the-variants.{Exact, Star, Hook, Nothing}
+
+-- a lookup goes by the shape of the object's type
+pub lookup-by-shape : (reg : Registry) (t : Ty) (name : PropertyNameKind) → resolve-property-type reg t name ≡ lookup-shape reg (shape-of t) name
+unfolding resolve-property-type lookup-shape
+lookup-by-shape reg t name = refl
+
+-- the shape that a node shows
+abbrev shape-shown : Node → ℕ
+shape-shown (Var s) = NONE
+shape-shown Primitive = NONE
+shape-shown Poly = NONE
+shape-shown ObjectMethod = NONE
+shape-shown (Object s) = s
+shape-shown (Function k s m) = s
+shape-shown (Phi a c) = NONE
+
+shape-read : {w : List ℕ} {lo n : ℕ} (node : Node) → Reads-node w lo n node → Gives-shape w lo n (shape-shown node)
+unfolding shape-of
+shape-read (Var s) h = record { is = λ top t f r. rw (h .shows top t f r .0) }
+shape-read Primitive h = record { is = λ top t f r. rw (h .shows top t f r) }
+shape-read Poly h = record { is = λ top t f r. rw (h .shows top t f r) }
+shape-read ObjectMethod h = record { is = λ top t f r. rw (h .shows top t f r) }
+shape-read (Object s) h = record { is = λ top t f r. rw (h .shows top t f r) }
+shape-read (Function k s m) h = record { is = λ top t f r. rw (h .shows top t f r .2) }
+shape-read (Phi a c) h = record { is = λ top t f r. rw (h .shows top t f r .1) }
+
+-- the shape of a node that was read, at the variant that a `match` found
+pub gives-shape : {w : List ℕ} {lo n : ℕ} {r node : Node} → r ≡ node → Reads-node w lo n r → Gives-shape w lo n (shape-shown node)
+gives-shape {w} {lo} {n} {r} {node} e h = shape-read node (subst (Reads-node w lo n) e h)
+
+-- property rows that are in their table
+module _ {img bytes : List ℕ} {first n : ℕ} (h : Rows-inside img bytes first n) where
+  pub rows-few : first + n ≤ 65536
+  rows-few = let l = h .registry .names .laid in omega (arith, l .table Properties, l .short, h .within)
+
+  pub row-inside : (p k : ℕ) → p < first + n → k < 2 → In-table Properties img p k
+  row-inside p k l m = record { laid = h .registry .names .laid; row = omega (arith, h .within); column = m }
+
+  pub row-name : (p : ℕ) → p < first + n → cell Properties img p 0 < count Names img
+  row-name p l = h .registry .names .property p (omega (arith, h .within))
+
+-- the entry among the rows from p up to e: the calls for row p gave its name, the name's bytes and the test of them
+module _ (img bytes text : List ℕ) (p e : ℕ) where
+  module _ {name : ℕ} {part : List ℕ} {t : Bool} (h : p < e) (d : name ≡ cell Properties img p 0) (f : part ≡ name-at img bytes name) (g : t ≡ same part text) where
+    row-test : {b : Bool} → t ≡ b → same (name-at img bytes (cell Properties img p 0)) text ≡ b
+    row-test q = cc
+
+    pub entry-found : t ≡ true → entry (properties-from img bytes p (e - p)) text ≡ some (property-at img bytes p)
+    unfolding entry properties-from property-at
+    entry-found q =
+        let s : e - p ≡ suc (e - suc p) = omega arith in
+        rw (s, row-test q, entry)
+
+    pub entry-later : t ≡ false → entry (properties-from img bytes (p + 1) (e - (p + 1))) text ≡ entry (properties-from img bytes p (e - p)) text
+    unfolding entry properties-from property-at
+    entry-later q =
+        let s : e - p ≡ suc (e - suc p) = omega arith in
+        rw (add-one, s, row-test q, entry)
+
+  pub entry-none : e ≤ p → entry (properties-from img bytes p (e - p)) text ≡ none
+  unfolding entry properties-from
+  entry-none h =
+      let q : e - p ≡ 0 = omega arith in
+      rw q
+
+-- an entry is one of the rows before e, or there is none
+data From-rows (img bytes : List ℕ) (e : ℕ) : Option Property → Type 0 where
+  from-none : From-rows img bytes e none
+  from-row : (p : ℕ) → p < e → From-rows img bytes e (some (property-at img bytes p))
+
+entry-from : (img bytes text : List ℕ) (e p n : ℕ) → p + n ≤ e → From-rows img bytes e (entry (properties-from img bytes p n) text)
+unfolding entry properties-from
+entry-from img bytes text e p zero l = from-none
+entry-from img bytes text e p (suc n) l = go (same (property-at img bytes p .name) text) refl (entry-from img bytes text e (suc p) n (omega arith))
+  where
+    go : (b : Bool) → same (property-at img bytes p .name) text ≡ b → From-rows img bytes e (entry (properties-from img bytes (suc p) n) text)
+        → From-rows img bytes e (entry (properties-from img bytes p (suc n)) text)
+    go true q h = rw (q, entry) (from-row p (omega arith))
+    go false q h = rw (q, entry) h
+
+entry-row : {img bytes : List ℕ} {o : Option Property} (rule : Rule) {t : ℕ} → Types-inside img → From-rows img bytes (count Properties img) o → Is t ≡ entry-number o
+    → (found rule (type-at img t) ≡ by-entry rule o) × (t < count Types img)
+unfolding by-entry entry-number property-at
+entry-row rule h from-none q = absurd (let z : _≡_ {A = ℕ} 0 1 = cc in omega arith)
+entry-row {img} rule {t} h (from-row p l) q = let z : t ≡ cell Properties img p 1 = cc in (rw z, omega (arith, h .property p l))
+
+no-entry : (rule : Rule) (o : Option Property) → Missing ≡ entry-number o → by-entry rule o ≡ nothing
+unfolding by-entry entry-number
+no-entry rule none q = refl
+no-entry rule (some p) q = absurd (let z : _≡_ {A = ℕ} 0 1 = cc in omega arith)
+
+-- nothing is found
+pub nothing-found : (img : List ℕ) → Looked-up img Nothing nothing
+unfolding found-in
+nothing-found img = record { finds = refl; inside = tt }
+
+-- what `find_entry` says of the entry of a name
+module _ (img bytes : List ℕ) (first n : ℕ) (text : List ℕ) {r : Entry} (q : r ≡ entry-number (entry (properties-from img bytes first n) text)) where
+  entry-is : (rule : Rule) {t : ℕ} → Rows-inside img bytes first n → r ≡ Is t
+      → (found rule (type-at img t) ≡ by-entry rule (entry (properties-from img bytes first n) text)) × (t < count Types img)
+  entry-is rule h p = entry-row rule (h .registry .types) (entry-from img bytes text (count Properties img) first n (h .within)) (sym p ∙ q)
+
+  pub entry-missing : (rule : Rule) → r ≡ Missing → by-entry rule (entry (properties-from img bytes first n) text) ≡ nothing
+  entry-missing rule p = no-entry rule (entry (properties-from img bytes first n) text) (sym p ∙ q)
+
+-- the "*" entry
+pub star-found : (img bytes : List ℕ) (first n : ℕ) {r : Entry} {t : ℕ} → Rows-inside img bytes first n → r ≡ entry-number (entry (properties-from img bytes first n) star-bytes) → r ≡ Is t
+    → Looked-up img (Star t) (by-entry star (entry (properties-from img bytes first n) star-bytes))
+unfolding found-in
+star-found img bytes first n h q p = let g = entry-is img bytes first n star-bytes q star h p in record { finds = g .0; inside = g .1 }
+
+-- a string name on a registered shape: the exact name, "*", the hook rule
+module _ (img bytes : List ℕ) (first n : ℕ) (text : List ℕ) {r : Entry} (q : r ≡ entry-number (entry (properties-from img bytes first n) text)) where
+  pub name-exact : {t : ℕ} → Rows-inside img bytes first n → r ≡ Is t
+      → Looked-up img (Exact t) (on-registered (registry-of img bytes) (properties-from img bytes first n) (string text))
+  unfolding found-in on-registered or-else
+  name-exact h p = let g = entry-is img bytes first n text q exact h p in record { finds = rw (← g .0); inside = g .1 }
+
+  module _ {r′ : Entry} (p : r ≡ Missing) (q′ : r′ ≡ entry-number (entry (properties-from img bytes first n) star-bytes)) where
+    pub name-star : {t : ℕ} → Rows-inside img bytes first n → r′ ≡ Is t
+        → Looked-up img (Star t) (on-registered (registry-of img bytes) (properties-from img bytes first n) (string text))
+    unfolding found-in on-registered or-else
+    name-star h p′ =
+        let g = entry-is img bytes first n star-bytes q′ star h p′ in
+        record { finds = rw (entry-missing img bytes first n text q exact p, ← g .0); inside = g .1 }
+
+    pub name-hook : r′ ≡ Missing → on-registered (registry-of img bytes) (properties-from img bytes first n) (string text) ≡ hook-found img text
+    unfolding on-registered or-else hook-rule hook-found registry-of
+    name-hook p′ = rw (entry-missing img bytes first n text q exact p, entry-missing img bytes first n star-bytes q′ star p′)
+
+-- the hook rule by a name's bytes
+module _ (img text : List ℕ) where
+  pub no-hook-name : is-hook-name text ≡ false → hook-found img text ≡ nothing
+  unfolding hook-found
+  no-hook-name e = rw (hook-found, e)
+
+  module _ (e : is-hook-name text ≡ true) where
+    pub no-hook-type : word img 2 ≡ NONE → hook-found img text ≡ nothing
+    unfolding hook-found hook-type by-hook-type
+    no-hook-type h = rw (hook-found, e, hook-type, eq-eqb (word img 2) NONE h)
+
+    pub hook-type-found : Types-inside img → (word img 2 ≡ NONE → ⊥) → Looked-up img (Hook (word img 2)) (hook-found img text)
+    unfolding found-in hook-found hook-type by-hook-type
+    hook-type-found t h = record { finds = rw (hook-found, e, hook-type, ne-eqb (word img 2) NONE h); inside = t .hook h }
+
+-- digits are no hook name
+first-append : (xs : List ℕ) (d : ℕ) → getD xs 0 0 ≤ 57 → d ≤ 57 → getD (xs ++ (d ∷ [])) 0 0 ≤ 57
+first-append [] d h l = l
+first-append (x ∷ xs) d h l = h
+
+first-digit : (m n : ℕ) → getD (decimal m n) 0 0 ≤ 57
+unfolding decimal
+first-digit zero n = omega arith
+first-digit (suc m) n = go (ltb n 10) refl (first-digit m (n / 10))
+  where
+    go : (b : Bool) → ltb n 10 ≡ b → getD (decimal m (n / 10)) 0 0 ≤ 57 → getD (decimal (suc m) n) 0 0 ≤ 57
+    go true q h = rw (decimal, q) (omega (arith, ltb-true n 10 q))
+    go false q h = rw (decimal, q) (first-append (decimal m (n / 10)) (48 + n % 10) h (omega arith))
+
+no-use : (name : List ℕ) → getD name 0 0 ≤ 57 → starts-with use-bytes name ≡ false
+unfolding starts-with same
+no-use [] h = refl
+no-use (x ∷ xs) h = let n : x ≡ 117 → ⊥ = λ e. omega arith in rw (same, ne-eqb x 117 n)
+
+digits-no-hook : (k : ℕ) → is-hook-name (digits k) ≡ false
+unfolding digits is-hook-name
+digits-no-hook k = rw (no-use (decimal 10 k) (first-digit 10 k), and-false)
+
+-- a String key's name is in its table
+pub key-named : (img : List ℕ) {key : Key} {n : ℕ} → key ≡ String n → Key-inside img key → n < count Names img
+key-named img e h = subst (Key-inside img) e h
+
+-- what a key stands for, at the variant that a `match` found
+module _ (img bytes : List ℕ) {key : Key} where
+  pub names-string : {n : ℕ} {part : List ℕ} → key ≡ String n → part ≡ name-at img bytes n → key-name img bytes key ≡ string part
+  unfolding key-name
+  names-string e p = rw (e, p)
+
+  pub names-position : {k len : ℕ} {text : List ℕ} → key ≡ Position k → Written k text len → key-name img bytes key ≡ string (take len text)
+  unfolding key-name
+  names-position {k} {len} e w = rw (e, w .content, take-at (digits k) (replicate (10 - len) 0) len (sym (w .count)))
+
+  pub names-number : key ≡ Number → key-name img bytes key ≡ number
+  unfolding key-name
+  names-number e = rw e
+
+  pub names-computed : key ≡ Computed → key-name img bytes key ≡ computed
+  unfolding key-name
+  names-computed e = rw e
+
+  pub no-hook-position : {k : ℕ} → key ≡ Position k → hook-rule (registry-of img bytes) (key-name img bytes key) ≡ nothing
+  unfolding hook-rule key-name
+  no-hook-position {k} e = rw (e, hook-rule, digits-no-hook k)
+
+-- what a table lists, by the row's number
+tabulated : {A : Type 0} (f : ℕ → A) (d : A) (k n j i : ℕ) → i ≡ k + j → j < n → getD (tabulate-from f k n) j d ≡ f i
+unfolding tabulate-from
+tabulated f d k zero j i e h = absurd (omega arith)
+tabulated f d k (suc n) zero i e h = ap f (omega arith)
+tabulated f d k (suc n) (suc j) i e h = tabulated f d (suc k) n j i (omega arith) (omega arith)
+
+pub tabulate-at : {A : Type 0} (t : Table) (img : List ℕ) (f : ℕ → A) (d : A) (n : ℕ) → n < count t img → getD (tabulate t img f) n d ≡ f n
+unfolding tabulate
+tabulate-at t img f d n h = tabulated f d 0 (count t img) n n (omega arith) h
+
+-- what it lists past its rows
+tabulated-past : {A : Type 0} (f : ℕ → A) (d : A) (k n j : ℕ) → n ≤ j → getD (tabulate-from f k n) j d ≡ d
+unfolding tabulate-from
+tabulated-past f d k zero j h = refl
+tabulated-past f d k (suc n) zero h = absurd (omega arith)
+tabulated-past f d k (suc n) (suc j) h = tabulated-past f d (suc k) n j (omega arith)
+
+shape-past : (img bytes : List ℕ) (s : ℕ) → count Shapes img ≤ s → getD (registry-of img bytes .shapes) s none ≡ none
+unfolding registry-of tabulate
+shape-past img bytes s h = tabulated-past (shape-at img bytes) none 0 (count Shapes img) s h
+
+shape-row : (img bytes : List ℕ) (s : ℕ) → s < count Shapes img → getD (registry-of img bytes .shapes) s none ≡ shape-at img bytes s
+unfolding registry-of
+shape-row img bytes s h = tabulate-at Shapes img (shape-at img bytes) none s h
+
+-- the row of a shape that is one
+module _ {img bytes : List ℕ} {shape : ℕ} {key : Key} (h : Lookup-asked img bytes key) (m : shape < count Shapes img) where
+  pub shape-word : (k : ℕ) → k < 3 → In-table Shapes img shape k
+  shape-word k l = record { laid = h .registry .names .laid; row = m; column = l }
+
+  pub shape-rows : {first n : ℕ} → first ≡ cell Shapes img shape 1 → n ≡ cell Shapes img shape 2 → Rows-inside img bytes first n
+  shape-rows p q = record { registry = h .registry; within = rw (p, q) (h .registry .shape shape m) }
+
+-- a lookup by the object's shape: none, one past the table, one that is absent, one that is registered
+module _ (img bytes : List ℕ) (shape : ℕ) (name : PropertyNameKind) where
+  pub lookup-unshaped : shape ≡ NONE → lookup-shape (registry-of img bytes) shape name ≡ hook-rule (registry-of img bytes) name
+  unfolding lookup-shape
+  lookup-unshaped e = rw (lookup-shape, eq-eqb shape NONE e)
+
+  pub lookup-past : {n : ℕ} → n ≡ count Shapes img → (shape ≡ NONE → ⊥) → n ≤ shape → lookup-shape (registry-of img bytes) shape name ≡ nothing
+  unfolding lookup-shape on-shape
+  lookup-past e m h = rw (lookup-shape, ne-eqb shape NONE m, shape-past img bytes shape (omega arith))
+
+  module _ {present : ℕ} (m : shape ≡ NONE → ⊥) (h : shape < count Shapes img) (e : present ≡ cell Shapes img shape 0) where
+    pub lookup-absent : (present ≡ 1 → ⊥) → lookup-shape (registry-of img bytes) shape name ≡ nothing
+    unfolding lookup-shape on-shape shape-at
+    lookup-absent o = rw (lookup-shape, ne-eqb shape NONE m, shape-row img bytes shape h, shape-at, ← e, ne-eqb present 1 o)
+
+    pub lookup-registered : {first n : ℕ} → present ≡ 1 → first ≡ cell Shapes img shape 1 → n ≡ cell Shapes img shape 2
+        → lookup-shape (registry-of img bytes) shape name ≡ on-registered (registry-of img bytes) (properties-from img bytes first n) name
+    unfolding lookup-shape on-shape shape-at
+    lookup-registered o p q = rw (lookup-shape, ne-eqb shape NONE m, shape-row img bytes shape h, shape-at, ← e, eq-eqb present 1 o, p, q)

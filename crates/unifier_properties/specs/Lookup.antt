@@ -1,0 +1,126 @@
+-- The property lookup over the image: its keys, and what its answers stand for. Assumes nothing.
+use Prim.Native.Nat.{ℕ, _+_, _*_, _^_, _≤_, _<_}
+use mathlib.Core.Path.{_≡_}
+use mathlib.Core.Bool.{true, false}
+use mathlib.Core.Option.{Option, none, some}
+use mathlib.Core.List.{List}
+use lib.ListN.{length, getD}
+use lib.Dec.{eqb}
+use Rattle.names.specs.Names.{is-hook-name}
+use Rattle.names.specs.Digits.{digits}
+use Rattle.image.specs.Ty.{NONE, Ty}
+use Rattle.image.specs.Image.{word, count, cell, treats-refs, hook-type, name-at, type-at, shape-at, Property}
+use Rattle.image.specs.Laid.{Laid, Names-inside}
+use Rattle.image.specs.Program.{tabulate}
+use Rattle.image.specs.declared.Table.the-variants.{Names, Types, Shapes, Properties}
+use Rattle.unifier_definition.specs.Cases.{shape-of}
+use Rattle.unifier_nodes.specs.Work.{Rep}
+use Rattle.unifier_definition.specs.Property.{PropertyNameKind, string, number, computed, Registry, exact, star, hook, Found, nothing, found, by-hook-type, hook-rule, on-shape}
+use Rattle.unifier_properties.specs.declared.Key.{Key}
+use Rattle.unifier_properties.specs.declared.Key.the-variants.{String, Position, Number, Computed}
+use Rattle.unifier_properties.specs.declared.Entry.{Entry}
+use Rattle.unifier_properties.specs.declared.Entry.the-variants.{Is, Missing}
+use Rattle.unifier_properties.specs.declared.Lookup.{Lookup}
+use Rattle.unifier_properties.specs.declared.Lookup.the-variants.{Exact, Star, Hook, Nothing}
+
+-- what the property lookup knows of an image
+unfoldable pub registry-of : (img bytes : List ℕ) → Registry
+registry-of img bytes = record { treats-refs = treats-refs img; hook-type = hook-type img; shapes = tabulate Shapes img (shape-at img bytes) }
+
+-- the property name that a key stands for: a name of the image, the digits of an array position, a number, a computed key
+unfoldable pub key-name : (img bytes : List ℕ) → Key → PropertyNameKind
+key-name img bytes (String n) = string (name-at img bytes n)
+key-name img bytes (Position k) = string (digits k)
+key-name img bytes Number = number
+key-name img bytes Computed = computed
+
+-- the type number of an entry
+unfoldable pub entry-number : Option Property → Entry
+entry-number none = Missing
+entry-number (some p) = Is (p .number)
+
+-- what an answer says: a type of the image, and the rule that gave it
+unfoldable pub found-in : List ℕ → Lookup → Found
+found-in img (Exact n) = found exact (type-at img n)
+found-in img (Star n) = found star (type-at img n)
+found-in img (Hook n) = found hook (type-at img n)
+found-in img Nothing = nothing
+
+-- `resolve_property_type`, by the object's shape: NONE for no shape or another kind of type
+unfoldable pub lookup-shape : Registry → ℕ → PropertyNameKind → Found
+lookup-shape reg shape name =
+    elim (eqb shape NONE) [
+      | true ↦ hook-rule reg name
+      | false ↦ on-shape reg (getD (reg .shapes) shape none) name
+    ]
+
+-- "for a hook name, the hook type", by the name's bytes
+unfoldable pub hook-found : (img text : List ℕ) → Found
+hook-found img text = elim (is-hook-name text) [ true ↦ by-hook-type (hook-type img) | false ↦ nothing ]
+
+-- a lookup's type number is in its table
+abbrev pub Number-inside : List ℕ → Lookup → Type 0
+Number-inside img (Exact n) = n < count Types img
+Number-inside img (Star n) = n < count Types img
+Number-inside img (Hook n) = n < count Types img
+Number-inside img Nothing = Unit
+
+-- what a lookup answers: what the definition finds, as a type number in its table
+pub record Looked-up (img : List ℕ) (r : Lookup) (want : Found) : Type 0 where
+  pub finds : found-in img r ≡ want
+  pub inside : Number-inside img r
+
+-- the types of properties and the hook type are in their table (refusal 6)
+pub record Types-inside (img : List ℕ) : Type 0 where
+  pub laid : Laid img
+  pub property : (n : ℕ) → n < count Properties img → cell Properties img n 1 < count Types img
+  pub hook : (word img 2 ≡ NONE → ⊥) → word img 2 < count Types img
+
+-- what a lookup reads of an image lies in its tables (refusals 1, 2, 5, 6 and 8)
+pub record Registry-inside (img bytes : List ℕ) : Type 0 where
+  pub names : Names-inside img bytes
+  pub types : Types-inside img
+  pub shape : (s : ℕ) → s < count Shapes img → cell Shapes img s 1 + cell Shapes img s 2 ≤ count Properties img
+
+-- n property rows from `first` on are in their table
+pub record Rows-inside (img bytes : List ℕ) (first n : ℕ) : Type 0 where
+  pub registry : Registry-inside img bytes
+  pub within : first + n ≤ count Properties img
+
+-- a key's name is in its table
+abbrev pub Key-inside : List ℕ → Key → Type 0
+Key-inside img (String n) = n < count Names img
+Key-inside img (Position k) = Unit
+Key-inside img Number = Unit
+Key-inside img Computed = Unit
+
+-- what `resolve_property_type` asks: a checked image, and a key of it
+pub record Lookup-asked (img bytes : List ℕ) (key : Key) : Type 0 where
+  pub registry : Registry-inside img bytes
+  pub key-inside : Key-inside img key
+
+-- the type number that a lookup gives
+unfoldable pub lookup-number : Lookup → Entry
+lookup-number (Exact n) = Is n
+lookup-number (Star n) = Is n
+lookup-number (Hook n) = Is n
+lookup-number Nothing = Missing
+
+-- the node of type n of the image, where the nodes of its type rows start at `types`: a Var's is its slot
+unfoldable pub type-node : (img : List ℕ) (types n : ℕ) → ℕ
+type-node img types n = elim (eqb (cell Types img n 0) 0) [ true ↦ cell Types img n 1 | false ↦ types + 3 * n ]
+
+-- what `node_of_type` asks: a type of the image, and unless it is a Var a node number that fits a word
+pub record Type-placed (img : List ℕ) (types n : ℕ) : Type 0 where
+  pub laid : Laid img
+  pub inside : n < count Types img
+  pub fits : (cell Types img n 0 ≡ 0 → ⊥) → types + 3 * n < 2 ^ 32
+
+-- the contract of `shape_of`
+pub record Gives-shape (w : List ℕ) (lo n : ℕ) (r : ℕ) : Type 0 where
+  pub is : (top : ℕ) (t : Ty) → top ≤ length w → Rep w lo top n t → r ≡ shape-of t
+
+-- To unfold this one is to unfold every definition of this file: the rows compute by it.
+unfoldable pub lookup-compute : Unit {0}
+unfolding registry-of key-name entry-number found-in lookup-shape hook-found lookup-number type-node
+lookup-compute = tt

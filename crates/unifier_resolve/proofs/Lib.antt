@@ -1,0 +1,3 @@
+pub mod Occurring
+pub mod Rewriting
+pub mod RewriteOperands
