@@ -1,8 +1,8 @@
--- What refusals 1, 2, 5 and 6 leave out is what the accessors ask. Assumes nothing.
+-- What refusals 1, 2, 5, 6 and 8 leave out is what the accessors ask. Assumes nothing.
 use Prim.Native.Nat.{ℕ, zero, suc, _+_, _*_, _≤_, _<_}
 use native.Mathlib.Omega.{arith}
-use mathlib.Core.Path.{_≡_}
-use mathlib.Core.Bool.{Bool, true, false, _&&_}
+use mathlib.Core.Path.{_≡_, refl}
+use mathlib.Core.Bool.{Bool, true, false, _&&_, _||_, false≢true}
 use mathlib.Core.List.{List}
 use lib.ListN.{length}
 use lib.Dec.{eqb, leb, ltb}
@@ -11,7 +11,7 @@ use Rattle.image.specs.declared.Table.{Table}
 use Rattle.image.specs.declared.Table.the-variants.{Names, Identifiers, Slots, Types, Lists, Shapes, Properties, Functions}
 use Rattle.image.specs.Image.{word, version, header-words, most-options, count, offset, width, cell}
 use Rattle.image.specs.Laid.{Laid, Names-inside, Bodies-inside}
-use Rattle.image.specs.Check.{each, inside, in-table, in-table-or-none, table-fits, tables-fit, header-sound, reference-sound, table-sound, references-sound}
+use Rattle.image.specs.Check.{each, inside, in-table, in-table-or-none, table-fits, tables-fit, header-sound, reference-sound, table-sound, references-sound, shape-row-sound, shape-sound, shapes-sound}
 use Rattle.image.proofs.Passed.{rows-each}
 use Rattle.image.proofs.Tests.{left, right}
 
@@ -110,3 +110,16 @@ names-inside img bytes l few e = record { laid = l; few = few; name = name-insid
 
 pub bodies-inside : (img bytes : List ℕ) → Laid img → references-sound img (length bytes) ≡ true → Bodies-inside img
 bodies-inside img bytes l e = record { laid = l; body = body-inside img (length bytes) e }
+
+-- 8: a shape's property rows
+module _ (img bytes : List ℕ) (e : shapes-sound img bytes ≡ true) (s : ℕ) (h : s < count Shapes img) where
+  row-fits : Bool
+  row-fits = leb (cell Shapes img s 0) 1 && inside (cell Shapes img s 1) (cell Shapes img s 2) (count Properties img) && (eqb (cell Shapes img s 0) 1 || eqb (cell Shapes img s 2) 0)
+
+  pub shape-inside : cell Shapes img s 1 + cell Shapes img s 2 ≤ count Properties img
+  unfolding row-fits shapes-sound each shape-sound shape-row-sound inside
+  shape-inside = go row-fits refl
+    where
+      go : (b : Bool) → row-fits ≡ b → cell Shapes img s 1 + cell Shapes img s 2 ≤ count Properties img
+      go true t = leb-true _ _ (right (leb (cell Shapes img s 0) 1) _ (left (leb (cell Shapes img s 0) 1 && inside (cell Shapes img s 1) (cell Shapes img s 2) (count Properties img)) _ t))
+      go false t = absurd (false≢true (rw (t, shape-row-sound) at (rows-each (shape-sound img bytes) (count Shapes img) s (right (leb 9 (count Shapes img)) _ e) h)))

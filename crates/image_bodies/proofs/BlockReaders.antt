@@ -7,12 +7,13 @@ use lib.ListN.{length}
 use Rattle.image.specs.declared.Limits.{Limits}
 use Rattle.image_instructions.specs.declared.read.Next.{Next}
 use Rattle.image.specs.Image.{word}
-use Rattle.image.specs.Read.{nothing, followed, passing, any, below, many, counted}
+use Rattle.image.specs.Read.{nothing, followed, passing, any, below, many, counted, between}
 use Rattle.image.specs.Body.{Block, identifier, param, phi-node, instruction, terminal, block, body}
 use Rattle.image.specs.Nesting.{named-by-instructions, named-by-blocks}
-use Rattle.image_instructions.specs.Cursor.{between, Ended, Ends}
+use Rattle.image_instructions.specs.Cursor.{Ended, Ends}
 use Rattle.image_instructions.specs.Marks.{Notes, named-by-block, named-by-body}
-use Rattle.image_instructions.proofs.Cursor.{words-3, length-between, lacking, counted-short, counted-next, counted-none, below-in, below-out}
+use Rattle.image_instructions.proofs.Cursor.{counted-short, counted-next, counted-none}
+use Rattle.image.proofs.Reading.{words-3, length-between, lacking, below-in, below-out}
 use Rattle.image_instructions.proofs.Noting.{Noted, notes-made, notes-then}
 
 module _ (l : Limits) (img : List ℕ) (at end : ℕ) (i : end ≤ length img) where

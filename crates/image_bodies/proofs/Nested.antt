@@ -16,14 +16,13 @@ use Rattle.image.specs.declared.Table.the-variants.{Functions}
 use Rattle.image_bodies.specs.declared.nesting.Bodies.the-variants.{Broken, Misnested, Sound}
 use Rattle.image.specs.Image.{count, cell, limits}
 use Rattle.image.specs.Laid.{Bodies-inside}
-use Rattle.image.specs.Read.{nothing}
+use Rattle.image.specs.Read.{nothing, between}
 use Rattle.image.specs.Body.{Body, body, whole, body-at, bodies-from}
 use Rattle.image.specs.Nesting.{named-by-blocks, member, name-each, nested-well, nesting-of}
 use Rattle.image.specs.Check.{all-read}
-use Rattle.image_instructions.specs.Cursor.{between}
 use Rattle.image_instructions.specs.Marks.{mark, note, Stands, misnested, nested, Noting, named-by-body, Whole, unsound, sound, Unmarked}
 use Rattle.image_bodies.specs.Answer.{answer, bodies-answer}
-use Rattle.image_instructions.proofs.Cursor.{words-0, words-1}
+use Rattle.image.proofs.Reading.{words-0, words-1}
 use Rattle.image_instructions.proofs.Noting.{Noted}
 
 -- the functions of the limits are those of the image

@@ -8,10 +8,10 @@ use image_instructions::read::phis;
 use image_instructions::read::terminal;
 ghost use Prim.Native.Nat.{_≤_};
 ghost use lib.ListN.{length};
-ghost use Rattle.image.specs.Read.{many};
+ghost use Rattle.image.specs.Read.{many, between};
 ghost use Rattle.image.specs.Body.{block as block-of, body as body-of};
 ghost use Rattle.image.specs.Nesting.{named-by-blocks};
-ghost use Rattle.image_instructions.specs.Cursor.{Cursor, between};
+ghost use Rattle.image_instructions.specs.Cursor.{Cursor};
 ghost use Rattle.image_instructions.specs.Marks.{Notes, named-by-block, named-by-body};
 
 // A block of function f: phis, instructions, terminal.

@@ -37,16 +37,6 @@ pub coded : (k : ℕ) → k < 42 → Coded (getD codes k 0) (form-of k)
 unfolding codes forms form-of said shown aux-of tags-of items-coded
 coded k h = agreed codes forms refl k h
 
-past : {A : Type 0} (xs : List A) (k : ℕ) → length xs ≤ k → getElem? xs k ≡ none
-past [] k h = refl
-past (x ∷ xs) zero h = absurd (omega arith)
-past (x ∷ xs) (suc k) h = past xs k (omega arith)
-
--- no kind from 42 on
-pub no-form : (k : ℕ) → 42 ≤ k → form-of k ≡ none
-unfolding form-of forms
-no-form k h = past forms k h
-
 -- only from 4 on is an aux word a function
 pub aux-function : (d : ℕ) → 4 ≤ d → aux-of d ≡ function
 unfolding aux-of

@@ -11,14 +11,14 @@ use Rattle.image.specs.declared.Limits.{Limits}
 use Rattle.image_instructions.specs.declared.read.Next.{Next}
 use Rattle.image.specs.Image.{word}
 use Rattle.image.specs.Kind.{Form, form-of}
-use Rattle.image.specs.Read.{nothing, got, followed, passing, any, below}
+use Rattle.image.specs.Read.{nothing, got, followed, passing, any, below, between}
 use Rattle.image.specs.Body.{Item, Instruction, identifier, aux-fits, items-of, instruction, instruction-of, nested, nested-by}
 use Rattle.image.specs.Nesting.{named-by-instructions}
 use Rattle.image_instructions.specs.Coded.{Coded, aux-of, items-coded}
-use Rattle.image_instructions.specs.Cursor.{between, Ends}
+use Rattle.image_instructions.specs.Cursor.{Ends}
 use Rattle.image_instructions.specs.Marks.{Noting, Notes, named-by}
-use Rattle.image_instructions.proofs.Coded.{no-form, aux-function, names-none}
-use Rattle.image_instructions.proofs.Cursor.{words-4, length-between, lacking, passing-in, passing-out, below-in, below-out}
+use Rattle.image_instructions.proofs.Coded.{aux-function, names-none}
+use Rattle.image.proofs.Reading.{no-form, words-4, length-between, lacking, passing-in, passing-out, below-in, below-out}
 use Rattle.image_instructions.proofs.Noting.{noting-none, notes-made}
 
 module _ (l : Limits) (img : List ℕ) (at end : ℕ) (i : end ≤ length img) where

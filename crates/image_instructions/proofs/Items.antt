@@ -10,11 +10,12 @@ use Rattle.image.specs.declared.Limits.{Limits}
 use Rattle.image_instructions.specs.declared.read.Next.{Next}
 use Rattle.image.specs.Image.{word}
 use Rattle.image.specs.Kind.{property-tags}
-use Rattle.image.specs.Read.{nothing, followed, below, many}
+use Rattle.image.specs.Read.{nothing, followed, below, many, between}
 use Rattle.image.specs.Body.{Item, one-of, pattern-tags, item, item-identifiers, item-keys, runs, items-of}
 use Rattle.image_instructions.specs.Coded.{tags-of, items-coded}
-use Rattle.image_instructions.specs.Cursor.{between, Ended, Ends}
-use Rattle.image_instructions.proofs.Cursor.{words-3, length-between, lacking, passing-in, passing-out, below-in, below-out, ends-then}
+use Rattle.image_instructions.specs.Cursor.{Ended, Ends}
+use Rattle.image_instructions.proofs.Cursor.{ends-then}
+use Rattle.image.proofs.Reading.{words-3, length-between, lacking, passing-in, passing-out, below-in, below-out}
 
 -- the key of any other tag
 pub key-zero : (l : Limits) (t : ℕ) → (t ≡ 3 → ⊥) → (t ≡ 6 → ⊥) → (t ≡ 4 → ⊥) → item-keys l t ≡ 1

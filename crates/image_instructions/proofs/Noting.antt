@@ -12,8 +12,8 @@ use lib.Dec.{ltb}
 use borrow.Author.Tests.{lt-ltb, le-ltb, eq-eqb, ne-eqb}
 use Rattle.image_instructions.specs.declared.read.Next.{Next}
 use Rattle.image_instructions.specs.declared.read.Next.the-variants.{Broken, To}
-use Rattle.image.specs.Read.{Read, nothing, got, followed, many}
-use Rattle.image_instructions.specs.Cursor.{between, Ended, Ends, broken, ended}
+use Rattle.image.specs.Read.{Read, nothing, got, followed, many, between}
+use Rattle.image_instructions.specs.Cursor.{Ended, Ends, broken, ended}
 use Rattle.image.specs.Nesting.{member, name-each}
 use Rattle.image_instructions.specs.Marks.{mark, note, Stands, misnested, nested, Noting, Notes, unread, noted}
 use Rattle.image_instructions.proofs.Cursor.{Reading, reading-start, reading-turn, reading-end}

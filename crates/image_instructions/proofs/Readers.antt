@@ -8,10 +8,10 @@ use mathlib.Core.List.{List, _∷_}
 use lib.ListN.{length}
 use Rattle.image.specs.declared.Limits.{Limits}
 use Rattle.image.specs.Image.{word}
-use Rattle.image.specs.Read.{nothing, got, followed, passing, below, counted}
+use Rattle.image.specs.Read.{nothing, got, followed, passing, below, counted, between}
 use Rattle.image.specs.Body.{identifier, param, phi-node, terminal, terminal-of}
-use Rattle.image_instructions.specs.Cursor.{between, Ended}
-use Rattle.image_instructions.proofs.Cursor.{words-0, words-1, words-2, length-between, lacking, below-in, below-out}
+use Rattle.image_instructions.specs.Cursor.{Ended}
+use Rattle.image.proofs.Reading.{words-0, words-1, words-2, length-between, lacking, below-in, below-out}
 
 -- the bound of a terminal's second word, by its first
 abbrev pub Second : Limits → ℕ → ℕ → Type 0

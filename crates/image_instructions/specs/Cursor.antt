@@ -1,16 +1,11 @@
--- Reading at a cursor: the words from a position to an end, and what an answer says of a reader there. Assumes nothing.
-use Prim.Native.Nat.{ℕ, _-_, _≤_}
+-- Reading at a cursor: what an answer says of a reader there. Assumes nothing.
+use Prim.Native.Nat.{ℕ, _≤_}
 use mathlib.Core.Path.{_≡_}
 use mathlib.Core.List.{List}
 use lib.ListN.{length}
 use Rattle.image_instructions.specs.declared.read.Next.{Next}
 use Rattle.image_instructions.specs.declared.read.Next.the-variants.{Broken, To}
-use Rattle.image.specs.Image.{range}
-use Rattle.image.specs.Read.{Read, nothing, got}
-
--- the words from a position to an end
-unfoldable pub between : List ℕ → ℕ → ℕ → List ℕ
-between img at end = range img at (end - at)
+use Rattle.image.specs.Read.{Read, nothing, got, between}
 
 -- a position that is at most an end in the image
 pub record Cursor (img : List ℕ) (at end : ℕ) : Type 0 where

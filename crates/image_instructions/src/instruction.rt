@@ -9,12 +9,12 @@ ghost use Prim.Native.Nat.{_≤_, _<_};
 ghost use lib.ListN.{length};
 ghost use lib.Dec.{eqb, ltb};
 ghost use Rattle.image.specs.Kind.{form-of};
-ghost use Rattle.image.specs.Read.{many};
+ghost use Rattle.image.specs.Read.{many, between};
 ghost use Rattle.image.specs.Body.{one-of, aux-fits, item-identifiers, item-keys, item as item-of, runs as runs-of, items-of, instruction as instruction-of};
 ghost use Rattle.image.specs.Nesting.{named-by-instructions};
 ghost use Rattle.image_instructions.specs.Marks.{Notes, named-by};
 ghost use Rattle.image_instructions.specs.Coded.{Coded, aux-of, tags-of, items-coded};
-ghost use Rattle.image_instructions.specs.Cursor.{Cursor, Ends, between};
+ghost use Rattle.image_instructions.specs.Cursor.{Cursor, Ends};
 
 // The forms by kind. Hundreds, the aux word: 0 unused, 1 flag, 2 name, 3 type, 4 function. Tens: how many places come first.
 // Units, what follows: 0 nothing, 1 places, 2 arguments, 3 elements, 4 properties, 5 attributes, 6 a pattern and its value.

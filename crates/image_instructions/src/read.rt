@@ -1,8 +1,8 @@
 // Parts of a body of which only the end matters: identifiers, parameters, phis, terminals.
 use image::Limits;
-ghost use Rattle.image.specs.Read.{many, counted};
+ghost use Rattle.image.specs.Read.{many, counted, between};
 ghost use Rattle.image.specs.Body.{identifier, param, phi-node, terminal as terminal-of};
-ghost use Rattle.image_instructions.specs.Cursor.{Cursor, Ends, between};
+ghost use Rattle.image_instructions.specs.Cursor.{Cursor, Ends};
 
 // Where reading goes on, or that a word is not allowed at its position or is missing.
 pub enum Next {

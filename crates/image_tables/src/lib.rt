@@ -12,20 +12,20 @@ use image::count;
 use image::offset;
 use image::row_words;
 
-pub fn both(a: bool, b: bool) -> bool
+fn both(a: bool, b: bool) -> bool
     ensures { λ r. ⌜ r ≡ a && b ⌝ }
 {
     if a { b } else { false }
 }
 
 // start + n is at most total.
-pub fn inside(start: u32, n: u32, total: usize) -> bool
+fn inside(start: u32, n: u32, total: usize) -> bool
     ensures { λ r. ⌜ r ≡ range-inside start n total ⌝ }
 {
     start as usize + n as usize <= total
 }
 
-pub fn in_table(img: &[u32], t: Table, n: u32) -> bool
+fn in_table(img: &[u32], t: Table, n: u32) -> bool
     requires { ⌜ 20 ≤ length (now img) ⌝ }
     ensures { λ r. ⌜ r ≡ in-table t (now (img .entry)) n ⌝ }
 {

@@ -7,9 +7,8 @@ use lib.ListN.{length}
 use borrow.Author.Tests.{ltb-true}
 use Rattle.image.specs.declared.Table.the-variants.{Identifiers}
 use Rattle.image.specs.Image.{word, count, limits}
-use Rattle.image.specs.Read.{below, many}
+use Rattle.image.specs.Read.{below, many, between}
 use Rattle.image.specs.Body.{Block, identifier, phi-node, terminal-of, terminal, instruction, block}
-use Rattle.image_instructions.specs.Cursor.{between}
 use Rattle.run_definition.specs.Position.{phi-at, after-phi, phis-at, after-phis, count-place, terminal-place, returned-at, block-at, after-block, blocks-at, after-blocks}
 use Rattle.run_definition.specs.Fitting.{Identifier-at, Phi-fits, Phis-fit, no-phi, phi-then, Block-fits, Blocks-fit, no-block, block-then}
 use Rattle.run_definition.proofs.PositionsReads.{Reads, reads-got, reads-then, reads-word, reads-counted}

@@ -7,9 +7,8 @@ use lib.ListN.{length, getD}
 use borrow.Author.Tests.{ltb-true}
 use Rattle.image.specs.declared.Table.the-variants.{Functions}
 use Rattle.image.specs.Image.{word, count, cell, limits}
-use Rattle.image.specs.Read.{Read, nothing, got, below}
+use Rattle.image.specs.Read.{Read, nothing, got, below, between}
 use Rattle.image.specs.Body.{Body, identifier, param, block, body, body-at}
-use Rattle.image_instructions.specs.Cursor.{between}
 use Rattle.image.specs.Program.{no-function, function-of, program}
 use Rattle.image.proofs.Bodies.{bodies-each}
 use Rattle.image.proofs.Checked.{body-inside}

@@ -11,10 +11,9 @@ use borrow.Author.Tests.{ltb-true, ltb-false}
 use Rattle.image.specs.declared.Table.the-variants.{Identifiers}
 use Rattle.image.specs.Image.{word, count, limits}
 use Rattle.image.specs.Kind.{forms, form-of}
-use Rattle.image.specs.Read.{any, below, many}
+use Rattle.image.specs.Read.{any, below, many, between}
 use Rattle.image.specs.Body.{Instruction, aux-fits, identifier, instruction-of, instruction, nested}
-use Rattle.image_instructions.specs.Cursor.{between}
-use Rattle.image_instructions.proofs.Coded.{no-form}
+use Rattle.image.proofs.Reading.{no-form}
 use Rattle.unifier_definition.proofs.Outcomes.{by-bool}
 use Rattle.run_definition.specs.Position.{form-at, instruction-at, after-instruction, instructions-at, after-instructions}
 use Rattle.run_definition.specs.Fitting.{Instruction-fits, Instructions-fit, no-instruction, instruction-then}

@@ -11,9 +11,8 @@ use borrow.Author.Tests.{ltb-true, leb-true, ltb-false}
 use Rattle.image.specs.declared.Table.the-variants.{Names, Identifiers}
 use Rattle.image.specs.Image.{word, count, limits}
 use Rattle.image.specs.Kind.{Items, places-then, pattern}
-use Rattle.image.specs.Read.{below, many}
+use Rattle.image.specs.Read.{below, many, between}
 use Rattle.image.specs.Body.{one-of, pattern-tags, identifier, item-identifiers, item-keys, item, runs, items-of, param}
-use Rattle.image_instructions.specs.Cursor.{between}
 use Rattle.unifier_definition.proofs.Outcomes.{by-bool}
 use Rattle.run_definition.specs.Position.{words-at, item-at, items-at, params-at}
 use Rattle.run_definition.specs.Fitting.{least-items, Identifier-at, Identifiers-at, Item-fits, Params-fit}

@@ -8,9 +8,8 @@ use lib.ListN.{length}
 use lib.Dec.{ltb}
 use borrow.Author.Tests.{ltb-true, ltb-false}
 use Rattle.image.specs.Image.{word}
-use Rattle.image.specs.Read.{Read, nothing, got, followed, passing, any, many, counted}
-use Rattle.image_instructions.specs.Cursor.{between}
-use Rattle.image_instructions.proofs.Cursor.{words-0, words-1, passing-in, passing-out}
+use Rattle.image.specs.Read.{Read, nothing, got, followed, passing, any, many, counted, between}
+use Rattle.image.proofs.Reading.{words-0, words-1, passing-in, passing-out}
 use Rattle.unifier_definition.proofs.Outcomes.{by-bool}
 
 -- a reader gives nothing, or this value with the words from a position on, and this is then so

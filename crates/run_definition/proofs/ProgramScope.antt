@@ -1,7 +1,7 @@
 -- The program of a checked image speaks of its own slots and functions only. Assumes nothing.
 use Prim.Native.Nat.{ℕ, zero, suc, _+_, _≤_, _<_}
 use mathlib.Core.Path.{_≡_, refl, sym, ap, subst, _∙_}
-use mathlib.Core.Bool.{Bool, true, false, _&&_, _||_, false≢true}
+use mathlib.Core.Bool.{Bool, true, false, _||_, false≢true}
 use mathlib.Core.Option.{Option, none, some}
 use mathlib.Core.Logic.{inl, inr}
 use mathlib.Core.List.{List, [], List·Memᴰ, List·Memᴰ·not-nil, List·Memᴰ·cases-cons}
@@ -9,17 +9,16 @@ use native.Mathlib.Nat.{zero-add}
 use native.Mathlib.Omega.{arith}
 use lib.ListN.{length, getD, List·getD-eq-default}
 use lib.Dec.{eqb, ltb, leb}
-use borrow.Author.Tests.{ltb-true, leb-true, ltb-false}
+use borrow.Author.Tests.{ltb-true, ltb-false}
 use Rattle.image.specs.Ty.{NONE, Ty}
 use Rattle.image.specs.declared.Table.the-variants.{Identifiers, Slots, Types, Shapes, Properties, Functions}
 use Rattle.image.specs.Image.{word, version, most-options, count, cell, outermost, type-at, hook-type, Property, property-at, properties-from, shape-at}
 use Rattle.image.specs.Body.{Instruction, Body, bodies, nested}
 use Rattle.image.specs.Nesting.{nested-well, nesting-of, nesting-sound}
-use Rattle.image.specs.Check.{each, inside, in-table-or-none, header-sound, shape-row-sound, shape-sound, shapes-sound, all-read, bodies-sound}
+use Rattle.image.specs.Check.{in-table-or-none, header-sound, all-read, bodies-sound}
 use Rattle.image.specs.Program.{tabulate, Identifier, identifier-at, entry-at, Program, read-bodies, program, no-identifier, no-function, slot-of, type-of, function-of}
 use Rattle.image.proofs.Tests.{left, right}
-use Rattle.image.proofs.Passed.{rows-each}
-use Rattle.image.proofs.Checked.{hook-sound, identifier-slot, slot-type, property-type}
+use Rattle.image.proofs.Checked.{hook-sound, identifier-slot, slot-type, property-type, shape-inside}
 use Rattle.image.proofs.Bodies.{bodies-length, bodies-each}
 use Rattle.unifier_definition.proofs.Outcomes.{by-bool}
 use Rattle.unifier_definition.proofs.Mentioned.{closed-prim, Only, only-closed}
@@ -98,20 +97,13 @@ module _ (img bytes : List ℕ) {budget : ℕ} (c : Checked-image img bytes budg
         | inr r ↦ properties-only (suc at) n (omega arith) q r
       ]
 
-  shape-inside : (s : ℕ) → s < count Shapes img → cell Shapes img s 1 + cell Shapes img s 2 ≤ count Properties img
-  unfolding shapes-sound each shape-sound shape-row-sound inside
-  shape-inside s l =
-      by-bool (leb (cell Shapes img s 0) 1 && inside (cell Shapes img s 1) (cell Shapes img s 2) (count Properties img) && (eqb (cell Shapes img s 0) 1 || eqb (cell Shapes img s 2) 0))
-      (λ t. leb-true _ _ (right (leb (cell Shapes img s 0) 1) _ (left (leb (cell Shapes img s 0) 1 && inside (cell Shapes img s 1) (cell Shapes img s 2) (count Properties img)) _ t)))
-      (λ t. absurd (false≢true (rw (t, shape-row-sound) at (rows-each (shape-sound img bytes) (count Shapes img) s (right (leb 9 (count Shapes img)) _ (c .shapes)) l))))
-
   shape-only : (s : ℕ) → s < 0 + count Shapes img → (ps : List Property) → shape-at img bytes s ≡ some ps → (q : Property) → List·Memᴰ q ps → Only (Image-slot (program img bytes)) (q .type)
   unfolding shape-at
   shape-only s l ps e q m =
       by-bool (eqb (cell Shapes img s 0) 1)
       (λ t.
       let z : properties-from img bytes (cell Shapes img s 1) (cell Shapes img s 2) ≡ ps = cc (rw (t, shape-at) at e) in
-      properties-only (cell Shapes img s 1) (cell Shapes img s 2) (shape-inside s (omega arith)) q (subst (List·Memᴰ q) (sym z) m))
+      properties-only (cell Shapes img s 1) (cell Shapes img s 2) (shape-inside img bytes (c .shapes) s (omega arith)) q (subst (List·Memᴰ q) (sym z) m))
       (λ t. let z : none ≡ some ps = rw (t, shape-at) at e in let y : _≡_ {A = ℕ} 0 1 = cc in absurd (omega arith))
 
   hook-only : (t : Ty) → hook-type img ≡ some t → Only (Image-slot (program img bytes)) t

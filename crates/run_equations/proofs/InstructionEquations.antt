@@ -16,8 +16,8 @@ use Rattle.image.specs.Kind.{forms}
 use Rattle.image.specs.Body.{Item, one-of, aux-fits}
 use Rattle.image.specs.Program.{program, name-of}
 use Rattle.unifier_definition.specs.Unify.{Equation, _≐_}
-use Rattle.unifier_properties.specs.Lookup.{Type-placed}
-use Rattle.unifier.proofs.Accesses.{type-placed}
+use Rattle.unifier_nodes.specs.Walks.{Type-placed}
+use Rattle.unifier_nodes.proofs.Nodes.{type-placed}
 use Rattle.run_definition.specs.Items.{ATTRIBUTE, has-tag}
 use Rattle.run_definition.specs.Equations.{when, is-flagged, get-type, global-equations, key-equations, attribute-equations}
 use Rattle.run_definition.specs.Position.{item-at, items-at, form-at, instruction-at}

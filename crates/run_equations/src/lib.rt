@@ -28,7 +28,7 @@ use run_walk::equal_made;
 use run_walk::object_of;
 use run_walk::slot_at;
 use run_walk::spent;
-use unifier::access::node_of_type;
+use unifier_nodes::node::node_of_type;
 
 pub fn primitive(img: &[u32], w: &mut [u32], lay: Layout, g: Walk, at: usize) -> Walk
     requires { ⌜ At-instruction (now img) (now w) lay g at 0 ⌝ }

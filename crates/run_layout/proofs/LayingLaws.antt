@@ -14,8 +14,7 @@ use Rattle.image.specs.Image.{count, cell, type-kinds, node, node-at}
 use Rattle.image.specs.Check.{inside, node-sound}
 use Rattle.image.proofs.TypeRows.{function-below, phi-below}
 use Rattle.unifier_nodes.specs.Work.{at}
-use Rattle.unifier_nodes.specs.Walks.{Wrote}
-use Rattle.unifier_properties.specs.Lookup.{type-node, Type-placed}
+use Rattle.unifier_nodes.specs.Walks.{Wrote, type-node, Type-placed}
 use Rattle.unifier_nodes.proofs.Words.{at-same, at-other}
 use Rattle.run_layout.specs.Laying.{Regions, Within, Lays-words, Lays, Row-laid, Type-asked, Lays-type, Lays-own}
 use Rattle.run_layout.specs.declared.Layout.{Layout}

@@ -18,9 +18,8 @@ use Rattle.image.specs.Check.{in-table, all-below, node-sound, type-sound}
 use Rattle.image.proofs.Tests.{left}
 use Rattle.image.proofs.TypeRows.{type-rules, type-at-row, phi-below, below-first}
 use Rattle.unifier_nodes.specs.Work.{at, leaf-prim, leaf-poly, leaf-method, leaf-object, Rep, rep-var, rep-leaf, rep-func, rep-phi, Reps, reps-nil, reps-cons}
-use Rattle.unifier_properties.specs.Lookup.{type-node}
-use Rattle.unifier.specs.Accesses.{Types-laid}
-use Rattle.unifier.proofs.Accesses.{node-of-var, node-of-row}
+use Rattle.unifier_nodes.specs.Walks.{type-node, Types-laid}
+use Rattle.unifier_nodes.proofs.Nodes.{node-of-var, node-of-row}
 use Rattle.run_layout.specs.Laying.{List-word, Row-laid}
 use Rattle.run_layout.proofs.LayingLaws.{result-below, operands-inside}
 

@@ -10,7 +10,7 @@ use Rattle.image.specs.Image.{word, count, cell, node-at}
 use Rattle.image.specs.Laid.{Laid}
 use Rattle.image.specs.Check.{node-sound}
 use Rattle.unifier_nodes.specs.Work.{at}
-use Rattle.unifier_properties.specs.Lookup.{type-node}
+use Rattle.unifier_nodes.specs.Walks.{type-node}
 use Rattle.run_definition.specs.Generate.{returned}
 use Rattle.run_definition.specs.Position.{blocks-at, after-body}
 use Rattle.run_definition.specs.Fitting.{Instructions-fit, Blocks-fit, Body-fits}

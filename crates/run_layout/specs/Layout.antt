@@ -9,8 +9,7 @@ use Rattle.image.specs.declared.Table.the-variants.{Identifiers, Slots, Types, 
 use Rattle.image.specs.Ty.{prim, method, object}
 use Rattle.image.specs.Image.{word, count, cell}
 use Rattle.unifier_nodes.specs.Work.{at, Rep}
-use Rattle.unifier_properties.specs.Lookup.{type-node}
-use Rattle.unifier.specs.Accesses.{Types-laid}
+use Rattle.unifier_nodes.specs.Walks.{type-node, Types-laid}
 use Rattle.run_definition.specs.Generate.{returned}
 use Rattle.run_definition.specs.Position.{body-from}
 use Rattle.run_definition.specs.Fitting.{Passed}

@@ -8,7 +8,7 @@ use image::IdentifierId;
 use image::Table;
 use image::cell;
 use image::count;
-use unifier::access::node_of_type;
+use unifier_nodes::node::node_of_type;
 use unifier_nodes::node::put_node;
 
 // The image's slots; where the nodes start; the lists of the image's Phis; by image position the slot of the identifier there; by

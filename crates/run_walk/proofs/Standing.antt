@@ -10,7 +10,7 @@ use Rattle.image.specs.Image.{word, count, cell, type-at}
 use Rattle.image.specs.Laid.{Laid}
 use Rattle.unifier_definition.specs.Unify.{Equation, _≐_}
 use Rattle.unifier_nodes.specs.Work.{Rep, rep-var}
-use Rattle.unifier_properties.specs.Lookup.{type-node}
+use Rattle.unifier_nodes.specs.Walks.{type-node}
 use Rattle.run_definition.specs.Position.{after-instruction}
 use Rattle.run_definition.specs.Fitting.{Identifier-at}
 use Rattle.run_walk.specs.Solving.{place-type, Solving, Solves, Stand-for, Equal-asked, Equates, At-instruction}

@@ -1,14 +1,12 @@
--- `unify` with a Property on the right: the nodes of the image's types, and what each return means. Assumes nothing.
+-- `unify` with a Property on the right: what each return means. Assumes nothing.
 use mathlib.Core.Path.{_≡_, refl, sym, ap, _∙_}
 use mathlib.Core.Bool.{Bool, true, false}
 use mathlib.Core.List.{List}
-use Prim.Native.Nat.{ℕ, suc, _+_, _*_, _^_, _≤_, _<_}
+use Prim.Native.Nat.{ℕ, suc, _≤_, _<_}
 use native.Mathlib.Omega.{arith}
 use lib.ListN.{length}
-use borrow.Author.Tests.{eq-eqb, ne-eqb}
 use Rattle.image.specs.Ty.{USE-REF, REF-VALUE, Ty, object}
-use Rattle.image.specs.Image.{count, cell, type-at}
-use Rattle.image.specs.Laid.{Laid, In-table}
+use Rattle.image.specs.Image.{count, type-at}
 use Rattle.image.specs.declared.Table.the-variants.{Types}
 use Rattle.unifier_definition.specs.Log.{Log}
 use Rattle.unifier_definition.specs.Outcome.{out-of-steps, number-of, refused, and-then}
@@ -17,8 +15,9 @@ use Rattle.unifier_definition.specs.Resolve.{get}
 use Rattle.unifier_definition.specs.Unify.{unify, unify-found, unify-property}
 use Rattle.unifier_nodes.specs.Work.{Rep, Room, Frame}
 use Rattle.unifier_nodes.specs.Promises.{Gives, Keeps, Known-both, Binds}
-use Rattle.unifier_properties.specs.Lookup.{registry-of, key-name, found-in, lookup-shape, lookup-number, type-node, Looked-up, Type-placed, Gives-shape}
-use Rattle.unifier.specs.Accesses.{unify-as-ref, unify-by-name, Types-laid, Refs-laid, Access-asked, Accesses}
+use Rattle.unifier_properties.specs.Lookup.{registry-of, key-name, found-in, lookup-shape, lookup-number, Looked-up, Gives-shape}
+use Rattle.unifier_nodes.specs.Walks.{type-node, Type-placed, Types-laid}
+use Rattle.unifier.specs.Accesses.{unify-as-ref, unify-by-name, Refs-laid, Access-asked, Accesses}
 use Rattle.unifier.specs.declared.access.Places.{Places}
 use Rattle.unifier_properties.specs.declared.Entry.{Entry}
 use Rattle.unifier_properties.specs.declared.Entry.the-variants.{Is, Missing}
@@ -27,40 +26,12 @@ use Rattle.unifier_properties.specs.declared.Lookup.{Lookup}
 use Rattle.unifier_properties.specs.declared.Lookup.the-variants.{Exact, Star, Hook, Nothing}
 use Rattle.unifier_nodes.specs.declared.state.Got.{Got}
 use Rattle.unifier_nodes.specs.declared.state.State.{State}
-use Rattle.unifier_nodes.proofs.Frames.{rep-same, rep-low, good-same, frame-from, room-left}
+use Rattle.unifier_nodes.proofs.Nodes.{type-placed}
+use Rattle.unifier_nodes.proofs.Frames.{rep-same, good-same, frame-from, room-left}
 use Rattle.unifier.proofs.Binding.{restated, keeps-still, keeps-trans, keeps-charged, unifies-done, unifies-refused, unifies-as}
 use Rattle.unifier_nodes.proofs.Getting.{refuses-then}
 use Rattle.unifier.proofs.Checked.{after, room-fits, room-less}
 use Rattle.unifier_properties.proofs.Lookups.{lookup-by-shape}
-
--- the node of a type whose row has this kind
-module _ (img : List ℕ) (types n : ℕ) {kind : ℕ} (e : kind ≡ cell Types img n 0) where
-  pub node-of-var : kind ≡ 0 → type-node img types n ≡ cell Types img n 1
-  unfolding type-node
-  node-of-var z = rw (type-node, eq-eqb (cell Types img n 0) 0 (sym e ∙ z))
-
-  pub node-of-row : (kind ≡ 0 → ⊥) → type-node img types n ≡ types + 3 * n
-  unfolding type-node
-  node-of-row z = rw (type-node, ne-eqb (cell Types img n 0) 0 (λ y. z (e ∙ y)))
-
--- what is asked of a type of the image
-module _ {img : List ℕ} {types n : ℕ} (h : Type-placed img types n) where
-  pub placed-word : (k : ℕ) → k < 3 → In-table Types img n k
-  placed-word k l = record { laid = h .laid; row = h .inside; column = l }
-
-  pub placed-fits : {kind : ℕ} → kind ≡ cell Types img n 0 → (kind ≡ 0 → ⊥) → types + 3 * n < 2 ^ 32
-  placed-fits e z = h .fits (λ y. z (e ∙ y))
-
--- a type that is laid has a node number that fits
-pub type-placed : {w img : List ℕ} {lo top types n : ℕ} → Laid img → lo ≤ top → top < 2 ^ 32 → Types-laid w lo top types img → n < count Types img → Type-placed img types n
-type-placed {img = img} {types = types} {n = n} laid l s h m = record {
-  laid = laid;
-  inside = m;
-  fits = λ z.
-      let e = node-of-row img types n refl z in
-      let low = rep-low l (h .rep n m) in
-      omega arith;
-}
 
 -- what a node stands for stays so after a call
 rep-later : {w w′ : List ℕ} {lo top top′ stack left n : ℕ} {t : Ty} → Frame w w′ lo top top′ stack left → Rep w lo top n t → Rep w′ lo top′ n t

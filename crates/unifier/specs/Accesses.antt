@@ -1,19 +1,17 @@
 -- `unify` with a Property on the right, over the work words: what it asks and what it promises. Assumes nothing.
-use Prim.Native.Nat.{ℕ, _<_}
+use Prim.Native.Nat.{ℕ}
 use mathlib.Core.Path.{_≡_}
 use mathlib.Core.Bool.{Bool}
 use mathlib.Core.List.{List}
 use Rattle.image.specs.Ty.{USE-REF, REF-VALUE, Ty, object}
-use Rattle.image.specs.Image.{count, type-at}
-use Rattle.image.specs.declared.Table.the-variants.{Types}
 use Rattle.unifier_definition.specs.Log.{Log}
 use Rattle.unifier_definition.specs.Outcome.{Outcome, and-then}
 use Rattle.unifier_definition.specs.Property.{PropertyNameKind, Access, Registry, resolve-property-type, is-ref-access}
 use Rattle.unifier_definition.specs.Unify.{unify, unify-found, unify-property}
 use Rattle.unifier_nodes.specs.Work.{Rep, Good, Room}
-use Rattle.unifier_nodes.specs.Walks.{Unifies}
+use Rattle.unifier_nodes.specs.Walks.{Unifies, Types-laid}
 use Rattle.unifier_nodes.specs.Promises.{Keeps, Known-both}
-use Rattle.unifier_properties.specs.Lookup.{registry-of, key-name, type-node, Registry-inside, Key-inside}
+use Rattle.unifier_properties.specs.Lookup.{registry-of, key-name, Registry-inside, Key-inside}
 use Rattle.unifier.specs.declared.access.Places.{Places}
 use Rattle.unifier_properties.specs.declared.Key.{Key}
 use Rattle.unifier_nodes.specs.declared.state.State.{State}
@@ -25,10 +23,6 @@ unify-as-ref σ s t u = and-then (unify σ s u (object USE-REF)) (λ σ₁ s₁.
 -- `unify` of t with the type of a property of this name, on an object that was resolved to o
 abbrev pub unify-by-name : Registry → PropertyNameKind → Log → ℕ → Ty → Ty → Outcome Log
 unify-by-name reg name σ s t o = unify-found σ s t (resolve-property-type reg o name)
-
--- the types of the image stand at their nodes
-pub record Types-laid (w : List ℕ) (lo top types : ℕ) (img : List ℕ) : Type 0 where
-  pub rep : (n : ℕ) → n < count Types img → Rep w lo top (type-node img types n) (type-at img n)
 
 -- the Objects of USE-REF and REF-VALUE stand at theirs
 pub record Refs-laid (w : List ℕ) (top : ℕ) (p : Places) : Type 0 where

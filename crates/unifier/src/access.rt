@@ -2,13 +2,12 @@
 ghost use mathlib.Core.Path.{_≡_};
 ghost use Rattle.unifier_nodes.specs.Work.{Room};
 ghost use Rattle.unifier_nodes.specs.Promises.{Known-both, Binds};
-ghost use Rattle.unifier_properties.specs.Lookup.{registry-of, key-name, lookup-number, type-node, Type-placed};
+ghost use Rattle.unifier_properties.specs.Lookup.{registry-of, key-name, lookup-number};
 ghost use Rattle.unifier.specs.Accesses.{unify-as-ref, unify-by-name, Refs-laid, Access-asked, Accesses};
-use crate::bind::refuse;
 use crate::bind::unify;
-use image::Table;
-use image::cell;
+use unifier_nodes::node::node_of_type;
 use unifier_nodes::state::State;
+use unifier_nodes::state::refuse;
 use unifier_properties::Entry;
 use unifier_properties::Key;
 use unifier_properties::Lookup;
@@ -22,17 +21,6 @@ pub struct Places {
     pub types: u32,
     pub use_ref: u32,
     pub ref_value: u32,
-}
-
-// The node of a type of the image.
-pub fn node_of_type(img: &[u32], types: u32, t: u32) -> u32
-    requires { ⌜ Type-placed (now img) types t ⌝ }
-    ensures { λ r. ⌜ r ≡ type-node (now (img .entry)) types t ⌝ }
-{
-    if cell(img, Table::Types, t, 0) == 0 {
-        return cell(img, Table::Types, t, 1);
-    }
-    types + 3 * t
 }
 
 // The type number that a lookup gives.

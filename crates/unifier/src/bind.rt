@@ -17,23 +17,10 @@ use unifier_nodes::node::try_union_types;
 use unifier_nodes::node::type_equals;
 use unifier_nodes::state::Occurs;
 use unifier_nodes::state::State;
+use unifier_nodes::state::refuse;
 use unifier_resolve::get;
 use unifier_resolve::occurs_check;
 use unifier_resolve::try_resolve_type;
-
-// The state with these steps left, and this number.
-pub fn refuse(st: State, left: u32, number: u32) -> State
-    ensures { λ r. ⌜ r ≡ record { left = left; top = st .top; stack = st .stack; refused = number } ⌝ }
-{
-    let top = st.top;
-    let stack = st.stack;
-    State {
-        left,
-        top,
-        stack,
-        refused: number,
-    }
-}
 
 // The two types are made one.
 pub fn unify(w: &mut [u32], lo: u32, st: State, a: u32, b: u32) -> State

@@ -1,18 +1,23 @@
--- What a node's words show of the type that it stands for. Assumes nothing.
+-- What a node's words show of the type that it stands for, and which node is that of a type of the image. Assumes nothing.
 use mathlib.Core.Path.{_≡_, refl, sym, ap, _∙_, subst}
 use mathlib.Core.Bool.{Bool, true, false}
 use mathlib.Core.List.{List}
 use mathlib.Core.Option.{Option, none, some}
-use Prim.Native.Nat.{ℕ, _+_, _≤_, _<_}
+use Prim.Native.Nat.{ℕ, _+_, _*_, _^_, _≤_, _<_}
 use native.Mathlib.Omega.{arith}
 use lib.ListN.{length}
+use borrow.Author.Tests.{eq-eqb, ne-eqb}
+use Rattle.image.specs.declared.Table.the-variants.{Types}
+use Rattle.image.specs.Image.{count, cell}
+use Rattle.image.specs.Laid.{Laid, In-table}
 use Rattle.image.specs.Ty.{Ty, var, prim, poly, method, object, func, phi, Tys, cons, count-of, function-kind}
 use Rattle.image.specs.declared.TypeId.{TypeId}
 use Rattle.unifier_nodes.specs.Work.{at, Leaf, leaf-prim, leaf-poly, leaf-method, leaf-object, Rep, rep-var, rep-leaf, rep-func, rep-phi, Reps, reps-nil, reps-cons, Bound, unbound, bound}
-use Rattle.unifier_nodes.specs.Walks.{Stands, Shows, Reads-node, Tells-kind}
+use Rattle.unifier_nodes.specs.Walks.{Stands, Shows, Reads-node, Tells-kind, type-node, Type-placed, Types-laid}
 use Rattle.unifier_definition.specs.Cases.{type-kind}
 use Rattle.unifier_nodes.specs.declared.node.Node.{Node}
 use Rattle.unifier_nodes.specs.declared.node.Node.the-variants.{Var, Primitive, Poly, ObjectMethod, Object, Function, Phi}
+use Rattle.unifier_nodes.proofs.Frames.{rep-low}
 
 pub function-kinds : (c : Bool) → (5 ≤ function-kind c) × (function-kind c ≤ 6)
 unfolding function-kind
@@ -152,3 +157,32 @@ kind-var l = record { is = λ top t f r. rw (is-var l r) }
 
 pub kind-node : {w : List ℕ} {lo n : ℕ} → lo ≤ n → Tells-kind w lo n (at w n)
 kind-node l = record { is = λ top t f r. kinded-kind (placed l r .kind) }
+
+-- the node of a type whose row has this kind
+module _ (img : List ℕ) (types n : ℕ) {kind : ℕ} (e : kind ≡ cell Types img n 0) where
+  pub node-of-var : kind ≡ 0 → type-node img types n ≡ cell Types img n 1
+  unfolding type-node
+  node-of-var z = rw (type-node, eq-eqb (cell Types img n 0) 0 (sym e ∙ z))
+
+  pub node-of-row : (kind ≡ 0 → ⊥) → type-node img types n ≡ types + 3 * n
+  unfolding type-node
+  node-of-row z = rw (type-node, ne-eqb (cell Types img n 0) 0 (λ y. z (e ∙ y)))
+
+-- what is asked of a type of the image
+module _ {img : List ℕ} {types n : ℕ} (h : Type-placed img types n) where
+  pub placed-word : (k : ℕ) → k < 3 → In-table Types img n k
+  placed-word k l = record { laid = h .laid; row = h .inside; column = l }
+
+  pub placed-fits : {kind : ℕ} → kind ≡ cell Types img n 0 → (kind ≡ 0 → ⊥) → types + 3 * n < 2 ^ 32
+  placed-fits e z = h .fits (λ y. z (e ∙ y))
+
+-- a type that is laid has a node number that fits
+pub type-placed : {w img : List ℕ} {lo top types n : ℕ} → Laid img → lo ≤ top → top < 2 ^ 32 → Types-laid w lo top types img → n < count Types img → Type-placed img types n
+type-placed {img = img} {types = types} {n = n} laid l s h m = record {
+  laid = laid;
+  inside = m;
+  fits = λ z.
+      let e = node-of-row img types n refl z in
+      let low = rep-low l (h .rep n m) in
+      omega arith;
+}

@@ -1,10 +1,14 @@
 -- The contracts of the functions over nodes: what each asks of the work words, and what its answer means. Assumes nothing.
 use Prim.Native.Nat.{ℕ, zero, suc, _+_, _*_, _^_, _≤_, _<_}
 use mathlib.Core.Path.{_≡_}
-use mathlib.Core.Bool.{Bool}
+use mathlib.Core.Bool.{Bool, true, false}
 use mathlib.Core.Option.{Option, none, some}
 use mathlib.Core.List.{List}
 use lib.ListN.{length}
+use lib.Dec.{eqb}
+use Rattle.image.specs.declared.Table.the-variants.{Types}
+use Rattle.image.specs.Image.{count, cell, type-at}
+use Rattle.image.specs.Laid.{Laid}
 use Rattle.image.specs.Ty.{Ty, var, prim, poly, method, object, func, phi, Tys, cons, count-of, function-kind}
 use Rattle.unifier_definition.specs.Cases.{type-kind}
 use Rattle.unifier_definition.specs.Log.{Log}
@@ -115,3 +119,17 @@ pub record Room-for (w : List ℕ) (g : Got) (stack more : ℕ) : Type 0 where
   pub heap : g .refused ≡ 0 → g .top + more + 3 ≤ stack
   pub hand : g .refused ≡ 0 → stack + more ≤ length w
   pub small : length w < 2 ^ 32
+
+-- the node of type n of the image, where the nodes of its type rows start at `types`: a Var's is its slot
+unfoldable pub type-node : (img : List ℕ) (types n : ℕ) → ℕ
+type-node img types n = elim (eqb (cell Types img n 0) 0) [ true ↦ cell Types img n 1 | false ↦ types + 3 * n ]
+
+-- what `node_of_type` asks: a type of the image, and unless it is a Var a node number that fits a word
+pub record Type-placed (img : List ℕ) (types n : ℕ) : Type 0 where
+  pub laid : Laid img
+  pub inside : n < count Types img
+  pub fits : (cell Types img n 0 ≡ 0 → ⊥) → types + 3 * n < 2 ^ 32
+
+-- the types of the image stand at their nodes
+pub record Types-laid (w : List ℕ) (lo top types : ℕ) (img : List ℕ) : Type 0 where
+  pub rep : (n : ℕ) → n < count Types img → Rep w lo top (type-node img types n) (type-at img n)

@@ -2,9 +2,11 @@
 ghost use mathlib.Core.Path.{_≡_};
 ghost use Prim.Native.Nat.{_+_, _≤_, _<_, _^_};
 ghost use lib.ListN.{length};
-ghost use Rattle.unifier_nodes.specs.Walks.{Stands, Reads-node, Tells-kind, Wrote};
+ghost use Rattle.unifier_nodes.specs.Walks.{Stands, Reads-node, Tells-kind, Wrote, type-node, Type-placed};
 ghost use Rattle.unifier_nodes.specs.Promises.{Stand-both, Stand-all, Leaves, Equals, Tells-shape, Unites-with, Unites, Tells-mention, Tells-mention-all};
+use image::Table;
 use image::TypeId;
+use image::cell;
 
 pub enum Node {
     Var(TypeId),
@@ -59,6 +61,17 @@ pub fn kind_of(w: &[u32], lo: u32, n: u32) -> u32
         return 0;
     }
     w[n as usize]
+}
+
+// The node of a type of the image.
+pub fn node_of_type(img: &[u32], types: u32, t: u32) -> u32
+    requires { ⌜ Type-placed (now img) types t ⌝ }
+    ensures { λ r. ⌜ r ≡ type-node (now (img .entry)) types t ⌝ }
+{
+    if cell(img, Table::Types, t, 0) == 0 {
+        return cell(img, Table::Types, t, 1);
+    }
+    types + 3 * t
 }
 
 // The candidate type, or none.

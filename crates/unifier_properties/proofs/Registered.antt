@@ -11,8 +11,7 @@ use Rattle.image.specs.declared.Table.{Table}
 use Rattle.image.specs.Image.{count}
 use Rattle.image.specs.Laid.{Laid}
 use Rattle.image.specs.Check.{in-table-or-none}
-use Rattle.image.proofs.Checked.{laid, names-inside, property-type, hook-sound}
-use Rattle.image_shapes.proofs.Shape.{sound-shape}
+use Rattle.image.proofs.Checked.{laid, names-inside, property-type, hook-sound, shape-inside}
 use Rattle.image.proofs.CheckPassed.{Checked-image}
 use Rattle.unifier_properties.specs.Lookup.{Registry-inside}
 
@@ -33,5 +32,5 @@ registry-inside img bytes budget c =
             property = property-type img (length bytes) (c .references);
             hook = in-table _ img _ (hook-sound img (length bytes) (c .references));
           };
-      shape = λ s h. sound-shape img bytes (c .shapes) s h .inside-table;
+      shape = λ s h. shape-inside img bytes (c .shapes) s h;
     }

@@ -1,5 +1,5 @@
 -- The property lookup over the image: its keys, and what its answers stand for. Assumes nothing.
-use Prim.Native.Nat.{ℕ, _+_, _*_, _^_, _≤_, _<_}
+use Prim.Native.Nat.{ℕ, _+_, _≤_, _<_}
 use mathlib.Core.Path.{_≡_}
 use mathlib.Core.Bool.{true, false}
 use mathlib.Core.Option.{Option, none, some}
@@ -106,21 +106,11 @@ lookup-number (Star n) = Is n
 lookup-number (Hook n) = Is n
 lookup-number Nothing = Missing
 
--- the node of type n of the image, where the nodes of its type rows start at `types`: a Var's is its slot
-unfoldable pub type-node : (img : List ℕ) (types n : ℕ) → ℕ
-type-node img types n = elim (eqb (cell Types img n 0) 0) [ true ↦ cell Types img n 1 | false ↦ types + 3 * n ]
-
--- what `node_of_type` asks: a type of the image, and unless it is a Var a node number that fits a word
-pub record Type-placed (img : List ℕ) (types n : ℕ) : Type 0 where
-  pub laid : Laid img
-  pub inside : n < count Types img
-  pub fits : (cell Types img n 0 ≡ 0 → ⊥) → types + 3 * n < 2 ^ 32
-
 -- the contract of `shape_of`
 pub record Gives-shape (w : List ℕ) (lo n : ℕ) (r : ℕ) : Type 0 where
   pub is : (top : ℕ) (t : Ty) → top ≤ length w → Rep w lo top n t → r ≡ shape-of t
 
 -- To unfold this one is to unfold every definition of this file: the rows compute by it.
 unfoldable pub lookup-compute : Unit {0}
-unfolding registry-of key-name entry-number found-in lookup-shape hook-found lookup-number type-node
+unfolding registry-of key-name entry-number found-in lookup-shape hook-found lookup-number
 lookup-compute = tt

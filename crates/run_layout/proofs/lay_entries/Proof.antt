@@ -2,7 +2,7 @@ use borrow.Author.Needs.{needs}
 use native.Mathlib.Omega.{arith}
 use Prim.Native.Nat.{_-_, _≤_}
 use mathlib.Core.Path.{ap, _∙_}
-use Rattle.unifier_properties.specs.Lookup.{type-node}
+use Rattle.unifier_nodes.specs.Walks.{type-node}
 use Rattle.run_layout.specs.Laying.{Lays-words, Entry-word}
 use Rattle.run_layout.proofs.LayingLaws.{words-none, words-store, words-all, placed-in}
 use Rattle.run_layout.proofs.lay_entries.Statement.{statement}

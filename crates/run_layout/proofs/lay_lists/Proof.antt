@@ -3,7 +3,7 @@ use native.Mathlib.Omega.{arith}
 use Prim.Native.Nat.{_-_, _≤_}
 use mathlib.Core.Path.{ap, _∙_}
 use mathlib.Core.Logic.{⊎-elim}
-use Rattle.unifier_properties.specs.Lookup.{type-node}
+use Rattle.unifier_nodes.specs.Walks.{type-node}
 use Rattle.run_layout.specs.Laying.{Lays-words, List-word}
 use Rattle.run_layout.proofs.LayingLaws.{words-none, words-store, words-skip, words-all, placed-in}
 use Rattle.run_layout.proofs.lay_lists.Statement.{statement}

@@ -27,7 +27,7 @@ use Rattle.unifier.proofs.bind.unify_functions.Kinds as unify-functions
 use Rattle.unifier.proofs.bind.+bind_phi+bind_unbound+bind_variable_to+unify+unify_functions.Lts-unify_functions as unify-functions-lts
 use Rattle.unifier.proofs.bind.bind_checked.Reads as bind-checked-reads
 use Rattle.unifier.proofs.bind.phi_candidate.Reads as phi-candidate-reads
-use Rattle.unifier.proofs.bind.refuse.Reads as refuse-reads
+use Rattle.unifier_nodes.proofs.state.refuse.Reads as refuse-reads
 use Rattle.unifier_nodes.proofs.node.kind_of.Reads as kind-of-reads
 use Rattle.unifier_nodes.proofs.node.node_at.Reads as node-at-reads
 use Rattle.unifier_nodes.proofs.node.type_equals.Reads as type-equals-reads

@@ -1,7 +1,7 @@
 use native.Mathlib.Omega.{arith}
-use Rattle.unifier.proofs.Accesses.{placed-word, placed-fits, node-of-var, node-of-row}
-use Rattle.unifier.proofs.access.node_of_type.Statement.{statement}
-use Rattle.unifier.proofs.access.node_of_type.Tie as tie
+use Rattle.unifier_nodes.proofs.Nodes.{placed-word, placed-fits, node-of-var, node-of-row}
+use Rattle.unifier_nodes.proofs.node.node_of_type.Statement.{statement}
+use Rattle.unifier_nodes.proofs.node.node_of_type.Tie as tie
 
 returns : tie.Need-returns
 returns c = rw (node-of-var _ _ _ (c .before .before .cell .ensures) (c .before .if1 .taken)) (c .cell2 .ensures)
