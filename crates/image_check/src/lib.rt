@@ -68,11 +68,3 @@ pub fn check(img: &[u32], bytes: &[u8], budget: u32, work: usize) -> u32
     }
     check_tables(img, bytes)
 }
-
-// The check, for hosts.
-#[no_mangle]
-pub extern "C" fn image_check(image: &[u32], names: &[u8], budget: u32, work: usize) -> u32
-    ensures { λ r. ⌜ r ≡ check-of (now (image .entry)) (now (names .entry)) budget work ⌝ }
-{
-    check(image, names, budget, work)
-}

@@ -82,8 +82,7 @@ fn run(img: &[u32], bytes: &[u8], budget: u32, w: &mut [u32], tables: &mut [u32]
 }
 
 // The image check, and then the run.
-#[no_mangle]
-pub extern "C" fn infer_types(
+pub fn infer_types(
     image: &[u32],
     names: &[u8],
     budget: u32,

@@ -39,8 +39,17 @@ pub struct Answer {
 mod linked {
     use super::Answer;
 
-    #[link(name = "infer", kind = "static")]
+    #[link(name = "infer_types", kind = "static")]
     extern "C" {
+        pub fn image_check(
+            image: *const u32,
+            image_len: usize,
+            names: *const u8,
+            names_len: usize,
+            budget: u32,
+            work_len: usize,
+        ) -> u32;
+
         pub fn infer_types(
             image: *const u32,
             image_len: usize,
@@ -58,6 +67,15 @@ mod linked {
 /// The work words that a call needs: 8 for each word of the image and each step of the budget.
 pub fn work_words(image_words: usize, budget: u32) -> usize {
     8 * (image_words + budget as usize)
+}
+
+/// The check that every run begins with, alone: 0, or the number of the first refusal from 1 to 10 that is due if so
+/// many work words are lent. Nothing is written.
+pub fn image_check(image: &[u32], names: &[u8], budget: u32, work_words: usize) -> u32 {
+    // SAFETY: each pointer comes with its slice's length; the library reads both slices and keeps neither.
+    unsafe {
+        linked::image_check(image.as_ptr(), image.len(), names.as_ptr(), names.len(), budget, work_words)
+    }
 }
 
 /// One call of the library with lent work and table words. Words of the tables past those written keep what they

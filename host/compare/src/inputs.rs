@@ -84,7 +84,8 @@ fn small(random: &mut Random) -> Input {
     input.budget = random.pick(&[0, 1, 2, 3, 5, 6, 65_536, 65_536, 65_536, 65_537]);
     input.lend_enough();
     if random.percent(5) {
-        input.work -= 1;
+        // an image cut to no word, with a budget of 0, needs none
+        input.work = input.work.saturating_sub(1);
     }
     input
 }
@@ -134,4 +135,18 @@ fn few_parts(random: &mut Random) -> Input {
     body.context = (0..random.below(2)).map(|_| any(random)).collect();
     image.body(body);
     image.write()
+}
+
+#[cfg(test)]
+mod tests {
+    use super::*;
+
+    /// Among so many are some that are cut to no word, with a budget of 0: they need no work word, so that none is left
+    /// to take away.
+    #[test]
+    fn small_inputs_of_no_word() {
+        let small = (0..100_000).map(|number| small(&mut Random::new(number)));
+        let empty = small.filter(|input| input.image.is_empty() && input.budget == 0);
+        assert!(empty.inspect(|input| assert_eq!(input.work, 0)).count() >= 20);
+    }
 }

@@ -9,20 +9,9 @@ use host::lent::{Memory, Side};
 use host::random::Random;
 use host::report::{fail, row};
 use host::{corpus, damage, edges, generate, hostile, plain, report};
+use infer_types::image_check;
 use std::slice;
 use std::time::Duration;
-
-#[link(name = "image_check", kind = "static")]
-extern "C" {
-    fn image_check(
-        image: *const u32,
-        image_len: usize,
-        names: *const u8,
-        names_len: usize,
-        budget: u32,
-        work: usize,
-    ) -> u32;
-}
 
 extern "C" {
     fn clock() -> i64;
@@ -49,14 +38,13 @@ impl Tests {
     fn ask(&mut self, case: &Case, side: Side, fill: u8) -> (u32, Duration) {
         let Input { image, names, budget, work } = &case.input;
         let (image_at, names_at) = (self.words.lend(image, side, fill), self.bytes.lend(names, side, fill));
-        let start = processor_time();
         // SAFETY: so many words and bytes stand there, and nothing changes them meanwhile.
-        let answer = unsafe { image_check(image_at, image.len(), names_at, names.len(), *budget, *work) };
-        let time = processor_time() - start;
-        // SAFETY: as above.
         let lent = unsafe {
             (slice::from_raw_parts(image_at, image.len()), slice::from_raw_parts(names_at, names.len()))
         };
+        let start = processor_time();
+        let answer = image_check(lent.0, lent.1, *budget, *work);
+        let time = processor_time() - start;
         if lent != (image, names) {
             fail("the lent image or names were changed", case);
         }

@@ -1,0 +1,27 @@
+// What hosts call: the functions of the archive, each with the contract of what it calls.
+ghost use mathlib.Core.Path.{_≡_};
+ghost use Rattle.image.specs.Check.{check as check-of};
+ghost use Rattle.infer.specs.Entry.{Infers};
+use run_tables::Answer;
+
+// The image check, and then the run.
+#[no_mangle]
+pub extern "C" fn infer_types(
+    image: &[u32],
+    names: &[u8],
+    budget: u32,
+    work: &mut [u32],
+    tables: &mut [u32],
+) -> Answer
+    ensures { λ r. ⌜ Infers (now (image .entry)) (now (names .entry)) budget (now (work .entry)) (now (work .exit)) (now (tables .entry)) (now (tables .exit)) r ⌝ }
+{
+    infer::infer_types(image, names, budget, work, tables)
+}
+
+// The check alone.
+#[no_mangle]
+pub extern "C" fn image_check(image: &[u32], names: &[u8], budget: u32, work: usize) -> u32
+    ensures { λ r. ⌜ r ≡ check-of (now (image .entry)) (now (names .entry)) budget work ⌝ }
+{
+    image_check::check(image, names, budget, work)
+}
