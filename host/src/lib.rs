@@ -1,4 +1,4 @@
-//! What the tests of the proved libraries share.
+//! What the tests of the proved library share.
 
 #[cfg(feature = "library")]
 pub mod answers;

@@ -1,4 +1,4 @@
--- What refusals 1, 2, 5, 6 and 8 leave out is what the accessors ask. Assumes nothing.
+-- What refusals 1, 2, 5, 6 and 8 leave out is what the accessors and the property lookup ask. Assumes nothing.
 use Prim.Native.Nat.{ℕ, zero, suc, _+_, _*_, _≤_, _<_}
 use native.Mathlib.Omega.{arith}
 use mathlib.Core.Path.{_≡_, refl}

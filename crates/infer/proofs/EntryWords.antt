@@ -1,4 +1,4 @@
--- The work words of the exported entry: cleared, lent to `run`, cleared again; and its answer. Assumes nothing.
+-- The work words of `infer_types`: cleared, lent to `run`, cleared again; and its answer. Assumes nothing.
 use Prim.Native.Nat.{ℕ, zero, suc, _+_, _*_, _≤_, _<_}
 use native.Mathlib.Omega.{arith}
 use mathlib.Core.Path.{_≡_, refl, sym, ap, _∙_}

@@ -1,4 +1,4 @@
--- The contract of the exported entry: the three demands of document 01. Assumes nothing.
+-- The contract of `infer_types`: the three demands of document 01. Assumes nothing.
 use Prim.Native.Nat.{ℕ, _+_, _*_, _<_}
 use mathlib.Core.Path.{_≡_}
 use mathlib.Core.List.{List}

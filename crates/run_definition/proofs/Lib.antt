@@ -22,4 +22,3 @@ pub mod PositionsItems
 pub mod PositionsInstructions
 pub mod PositionsBlocks
 pub mod PositionsBody
-pub mod KindTable

@@ -26,7 +26,7 @@ use Rattle.run_layout.specs.declared.Layout.{Layout}
 use Rattle.run_walk.specs.declared.Walk.{Walk}
 use Rattle.run_definition.proofs.PositionLaws.{words-length, word-entry, slot-is}
 use Rattle.run_walk.proofs.Composing.{solves-same, solves-none, solves-next, solving-on, own-fits, layout-at}
-use Rattle.run_walk.proofs.Standing.{Standing, object-stands, place-stands, slot-stands, equal-asks, equal-solves}
+use Rattle.run_equations.proofs.Standing.{Standing, object-stands, place-stands, slot-stands, equal-asks, equal-solves}
 use Rattle.run_equations.proofs.InstructionEquations.{get-type-at, when-true, when-false, made-asks}
 
 -- as many types as identifiers

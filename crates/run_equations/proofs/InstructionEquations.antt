@@ -28,7 +28,7 @@ use Rattle.run_layout.specs.declared.Layout.{Layout}
 use Rattle.run_walk.specs.declared.Walk.{Walk}
 use Rattle.run_definition.proofs.PositionLaws.{slot-is, name-is, type-is}
 use Rattle.run_walk.proofs.Composing.{layout-at, with-next, solves-made, solves-same, solves-none, own-fits}
-use Rattle.run_walk.proofs.Standing.{Standing, var-stands, equal-asks-on, equal-solves-on, instruction-inside, lvalue-stands, prim-stands, object-stands, place-stands}
+use Rattle.run_equations.proofs.Standing.{Standing, var-stands, equal-asks-on, equal-solves-on, instruction-inside, lvalue-stands, prim-stands, object-stands, place-stands}
 
 -- the type of the identifier at a position
 pub get-type-at : (img bytes : List ℕ) (k : ℕ) → Identifier-at img k → get-type (program img bytes) (word img k) ≡ place-type img k

@@ -33,7 +33,7 @@ use Rattle.run_walk.specs.declared.Walk.{Walk}
 use Rattle.run_walk.proofs.Composing.{generates-of, generates-only, generates-same, solves-none}
 use Rattle.run_definition.proofs.PositionLaws.{item-id-at, nested-below, slot-is}
 use Rattle.run_definition.proofs.PositionsBody.{checked, body-read, body-fits}
-use Rattle.run_definition.proofs.KindTable.{all-at, all-from, nested-some}
+use Rattle.run_generate.proofs.KindTable.{all-at, all-from, nested-some}
 
 -- the form of a kind's number
 abbrev numbered : ℕ → Form

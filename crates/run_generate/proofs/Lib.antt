@@ -1,3 +1,4 @@
+pub mod KindTable
 pub mod Dispatch
 pub mod Loops
 pub mod Cycle

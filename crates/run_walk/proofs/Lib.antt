@@ -1,3 +1,2 @@
 pub mod Composing
 pub mod Equating
-pub mod Standing

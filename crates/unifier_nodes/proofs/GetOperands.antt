@@ -1,4 +1,4 @@
--- The loop of `get` over operands: what holds after i of them, and what it gives at the end. Assumes nothing.
+-- Operands one after another, and the loop of `get` over them: what holds after i of them, and what it gives at the end. Assumes nothing.
 use mathlib.Core.Path.{_≡_, refl, sym, ap, _∙_, subst}
 use mathlib.Core.List.{List}
 use Prim.Native.Nat.{ℕ, suc, _+_, _*_, _≤_, _<_}

@@ -1,4 +1,4 @@
--- What `get` gives at each way that it returns, from what its calls gave. Assumes nothing.
+-- What walks over nodes share (nodes read, steps charged, refusals handed on), and what `get` gives at each way that it returns. Assumes nothing.
 use mathlib.Core.Path.{_≡_, refl, ap, _∙_, subst}
 use mathlib.Core.List.{List}
 use mathlib.Core.Option.{Option, none, some}

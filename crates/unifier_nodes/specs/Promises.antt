@@ -1,4 +1,4 @@
--- What the functions over nodes promise, as one record each. Assumes nothing.
+-- What the unifier's functions promise, here and in the crates above, as one record each. Assumes nothing.
 use Prim.Native.Nat.{ℕ, zero, suc, _+_, _*_, _≤_, _<_}
 use mathlib.Core.Path.{_≡_}
 use mathlib.Core.Bool.{Bool, true, false}

@@ -1,6 +1,6 @@
 use borrow.Author.Needs.{needs}
 use native.Mathlib.Omega.{arith}
-use Rattle.run_walk.proofs.Standing.{equal-asks, equal-solves, instruction-low, lvalue-asks, lvalue-stands, first-asks, first-stands}
+use Rattle.run_equations.proofs.Standing.{equal-asks, equal-solves, instruction-low, lvalue-asks, lvalue-stands, first-asks, first-stands}
 use Rattle.run_equations.proofs.alias.Statement.{statement}
 use Rattle.run_equations.proofs.alias.Tie as tie
 

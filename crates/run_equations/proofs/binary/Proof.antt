@@ -1,6 +1,6 @@
 use borrow.Author.Needs.{needs}
 use native.Mathlib.Omega.{arith}
-use Rattle.run_walk.proofs.Standing.{instruction-inside, instruction-low, instruction-any}
+use Rattle.run_equations.proofs.Standing.{instruction-inside, instruction-low, instruction-any}
 use Rattle.run_equations.proofs.InstructionEquations.{when-solves, skip-solves, flagged, unflagged}
 use Rattle.run_equations.proofs.binary.Statement.{statement}
 use Rattle.run_equations.proofs.binary.Tie as tie

@@ -1,7 +1,7 @@
 use borrow.Author.Needs.{needs}
 use native.Mathlib.Omega.{arith}
 use Rattle.run_walk.proofs.Composing.{solves-spent, next-fits}
-use Rattle.run_walk.proofs.Standing.{instruction-low, lvalue-asks}
+use Rattle.run_equations.proofs.Standing.{instruction-low, lvalue-asks}
 use Rattle.run_equations.proofs.InstructionEquations.{call-asks, call-asks-on, calls}
 use Rattle.run_equations.proofs.call.Statement.{statement}
 use Rattle.run_equations.proofs.call.Tie as tie

@@ -1,6 +1,6 @@
 use borrow.Author.Needs.{needs}
 use native.Mathlib.Omega.{arith}
-use Rattle.run_walk.proofs.Standing.{instruction-low, lvalue-asks}
+use Rattle.run_equations.proofs.Standing.{instruction-low, lvalue-asks}
 use Rattle.run_equations.proofs.InstructionEquations.{function-asks, function-solves}
 use Rattle.run_equations.proofs.function_type.Statement.{statement}
 use Rattle.run_equations.proofs.function_type.Tie as tie

@@ -1,7 +1,7 @@
 use borrow.Author.Needs.{needs}
 use native.Mathlib.Omega.{arith}
 use Rattle.run_walk.proofs.Composing.{own-fits}
-use Rattle.run_walk.proofs.Standing.{object-stands, equal-asks-on, equal-solves-on, instruction-low, lvalue-asks, lvalue-stands}
+use Rattle.run_equations.proofs.Standing.{object-stands, equal-asks-on, equal-solves-on, instruction-low, lvalue-asks, lvalue-stands}
 use Rattle.run_equations.proofs.InstructionEquations.{when-solves, skip-solves, refs-on, refs-off}
 use Rattle.run_equations.proofs.jsx_expression.Statement.{statement}
 use Rattle.run_equations.proofs.jsx_expression.Tie as tie

@@ -2,7 +2,7 @@ use borrow.Author.Needs.{needs}
 use native.Mathlib.Omega.{arith}
 use mathlib.Core.Path.{sym}
 use Rattle.run_walk.proofs.Composing.{solves-same, solves-none}
-use Rattle.run_walk.proofs.Standing.{type-stands, equal-asks, equal-solves, instruction-inside, instruction-low, lvalue-asks, lvalue-stands}
+use Rattle.run_equations.proofs.Standing.{type-stands, equal-asks, equal-solves, instruction-inside, instruction-low, lvalue-asks, lvalue-stands}
 use Rattle.run_equations.proofs.InstructionEquations.{global-none, global-inside, global-some, type-asks}
 use Rattle.run_equations.proofs.load_global.Statement.{statement}
 use Rattle.run_equations.proofs.load_global.Tie as tie

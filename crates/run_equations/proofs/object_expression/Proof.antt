@@ -5,7 +5,7 @@ use Prim.Native.Nat.{_+_, _≤_, _-_}
 use mathlib.Core.Logic.{⊎-elim}
 use mathlib.Core.List.{[], flatMap}
 use Rattle.run_walk.proofs.Composing.{own-fits}
-use Rattle.run_walk.proofs.Standing.{prim-stands, object-stands, equal-asks-on, equal-solves-on, instruction-inside, instruction-low, lvalue-asks, lvalue-stands}
+use Rattle.run_equations.proofs.Standing.{prim-stands, object-stands, equal-asks-on, equal-solves-on, instruction-inside, instruction-low, lvalue-asks, lvalue-stands}
 use Rattle.run_equations.proofs.InstructionEquations.{items-start, item-low, item-inside, items-all, key-asks, key-stands, key-turn, key-skip}
 use Rattle.image.specs.Program.{program}
 use Rattle.run_definition.specs.Equations.{key-equations}

@@ -2,7 +2,7 @@ use borrow.Author.Needs.{needs}
 use native.Mathlib.Omega.{arith}
 use mathlib.Core.Path.{refl}
 use mathlib.Core.List.{[]}
-use Rattle.run_walk.proofs.Standing.{place-stands}
+use Rattle.run_equations.proofs.Standing.{place-stands}
 use Rattle.run_equations.proofs.InstructionEquations.{made-asks}
 use Rattle.run_equations.proofs.FunctionEquations.{phi-fits, operands-stand, phi-solves}
 use Rattle.run_equations.proofs.phi.Statement.{statement}

@@ -1,6 +1,6 @@
 use borrow.Author.Needs.{needs}
 use native.Mathlib.Omega.{arith}
-use Rattle.run_walk.proofs.Standing.{prim-stands, equal-asks, equal-solves, instruction-low, lvalue-asks, lvalue-stands}
+use Rattle.run_equations.proofs.Standing.{prim-stands, equal-asks, equal-solves, instruction-low, lvalue-asks, lvalue-stands}
 use Rattle.run_equations.proofs.primitive.Statement.{statement}
 use Rattle.run_equations.proofs.primitive.Tie as tie
 

@@ -5,7 +5,7 @@ use Prim.Native.Nat.{_+_, _≤_, _-_}
 use mathlib.Core.Logic.{⊎-elim}
 use mathlib.Core.List.{flatMap}
 use Rattle.run_walk.proofs.Composing.{own-fits}
-use Rattle.run_walk.proofs.Standing.{object-stands, equal-asks-on, instruction-inside, instruction-low}
+use Rattle.run_equations.proofs.Standing.{object-stands, equal-asks-on, instruction-inside, instruction-low}
 use Rattle.run_equations.proofs.InstructionEquations.{items-start, item-low, items-all, attribute-asks, attribute-place, attribute-stands, attribute-turn, attribute-skip}
 use Rattle.image.specs.Program.{program}
 use Rattle.run_definition.specs.Equations.{attribute-equations}

@@ -2,7 +2,7 @@ use borrow.Author.Needs.{needs}
 use native.Mathlib.Omega.{arith}
 use mathlib.Core.Path.{sym}
 use Rattle.run_walk.proofs.Composing.{solves-same, solves-none}
-use Rattle.run_walk.proofs.Standing.{equal-asks, equal-solves, instruction-inside, instruction-low, first-asks, first-stands, second-asks, second-stands}
+use Rattle.run_equations.proofs.Standing.{equal-asks, equal-solves, instruction-inside, instruction-low, first-asks, first-stands, second-asks, second-stands}
 use Rattle.run_equations.proofs.InstructionEquations.{when-true, when-false, flagged, unflagged}
 use Rattle.run_equations.proofs.store_context.Statement.{statement}
 use Rattle.run_equations.proofs.store_context.Tie as tie

@@ -1,6 +1,6 @@
 use borrow.Author.Needs.{needs}
 use native.Mathlib.Omega.{arith}
-use Rattle.run_walk.proofs.Standing.{equal-asks, equal-solves, equal-asks-on, equal-solves-on, instruction-low, lvalue-asks, lvalue-stands, first-asks, first-stands, second-asks, second-stands}
+use Rattle.run_equations.proofs.Standing.{equal-asks, equal-solves, equal-asks-on, equal-solves-on, instruction-low, lvalue-asks, lvalue-stands, first-asks, first-stands, second-asks, second-stands}
 use Rattle.run_equations.proofs.store_local.Statement.{statement}
 use Rattle.run_equations.proofs.store_local.Tie as tie
 

@@ -5,7 +5,7 @@ use Rattle.image.specs.declared.Table.the-variants.{Functions}
 use Rattle.image.specs.Image.{count}
 use Rattle.run_definition.specs.Position.{after-instruction}
 use Rattle.run_definition.proofs.PositionLaws.{nested-below}
-use Rattle.run_definition.proofs.KindTable.{nested-some, nested-none}
+use Rattle.run_generate.proofs.KindTable.{nested-some, nested-none}
 use Rattle.run_generate.proofs.Dispatch.{instruction-inside}
 use Rattle.run_generate.proofs.Loops.{Going, going-none, going-one, going-more, going-stopped, going-done, instructions-row, blocks-row, generating, instructions-doing, blocks-doing, instructions-stopped, instructions-done}
 use Rattle.run_generate.proofs.Cycle.{ready-own, inner-done, instruction-stopped, instruction-inner, instruction-plain, instruction-ready, inner-ready, block-places, block-inside, block-instructions, block-stopped, phis-land, block-ready, block-done, function-places, component-asked, returns-asked, blocks-fit, function-stopped, function-ready, function-broken, blocks-ready, function-done}
