@@ -1,11 +1,26 @@
-// The image: its accessors.
+// The image: its accessors, and names for the numbers of its format.
 ghost use mathlib.Core.Path.{_≡_};
 ghost use Prim.Native.Nat.{_+_, _≤_, _<_};
 ghost use lib.ListN.{length};
 ghost use Rattle.image.specs.Image.{word, width, header-place, count as count-of, offset as offset-of, cell as cell-of, limits as limits-of, name-at};
 ghost use Rattle.image.specs.Laid.{Laid, In-table, Names-inside};
 
+pub mod header;
+pub mod kinds;
+pub mod markers;
+pub mod refusals;
+pub mod shapes;
+pub mod tags;
+pub mod type_kinds;
+
+// No name, type or shape; a property that is a number.
 pub const NONE: u32 = 4294967295;
+
+// The most words of an image, name bytes and steps.
+pub const LIMIT: usize = 65536;
+
+// The work words that are lent for each word of the image and each step of the budget.
+pub const WORK_WORDS_EACH: usize = 8;
 
 // The tables, in the header's order.
 pub enum Table {

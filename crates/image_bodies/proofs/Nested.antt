@@ -19,9 +19,9 @@ use Rattle.image.specs.Laid.{Bodies-inside}
 use Rattle.image.specs.Read.{nothing, between}
 use Rattle.image.specs.Body.{Body, body, whole, body-at, bodies-from}
 use Rattle.image.specs.Nesting.{named-by-blocks, member, name-each, nested-well, nesting-of}
-use Rattle.image.specs.Check.{all-read}
+use Rattle.image.specs.Check.{all-read, unless}
 use Rattle.image_instructions.specs.Marks.{mark, note, Stands, misnested, nested, Noting, named-by-body, Whole, unsound, sound, Unmarked}
-use Rattle.image_bodies.specs.Answer.{answer, bodies-answer}
+use Rattle.image_bodies.specs.Answer.{bodies-number, bodies-refusal}
 use Rattle.image.proofs.Reading.{words-0, words-1}
 use Rattle.image_instructions.proofs.Noting.{Noted}
 
@@ -127,8 +127,8 @@ module _ {img : List ℕ} {n f : ℕ} {m₀ m : List ℕ} (p : Bodies-noted img 
         rest = λ bs. rw (append-assoc, add-one) (p .rest (b ∷ bs) ∙ nested-one f (p .named) b bs);
       }
 
-  pub bodies-broken : f < n → body-at img f ≡ none → Broken ≡ bodies-answer (bodies-from img 0 n)
-  unfolding bodies-from after-bodies answer bodies-answer all-read
+  pub bodies-broken : f < n → body-at img f ≡ none → bodies-number Broken ≡ bodies-refusal (bodies-from img 0 n)
+  unfolding bodies-from after-bodies bodies-number bodies-refusal unless all-read
   bodies-broken h e = rw (one-more h, e, bodies-from)
 
   all : n ≤ f → bodies-from img 0 n ≡ some (p .read ++ [])
@@ -137,19 +137,19 @@ module _ {img : List ℕ} {n f : ℕ} {m₀ m : List ℕ} (p : Bodies-noted img 
       let q : n - f ≡ 0 = omega arith in
       p .same ∙ rw q
 
-  pub bodies-misnested : n ≤ f → (getD m 0 0 ≡ 0 → ⊥) → Misnested ≡ bodies-answer (bodies-from img 0 n)
-  unfolding answer bodies-answer all-read nesting-of nested-from
+  pub bodies-misnested : n ≤ f → (getD m 0 0 ≡ 0 → ⊥) → bodies-number Misnested ≡ bodies-refusal (bodies-from img 0 n)
+  unfolding bodies-number bodies-refusal unless all-read nesting-of nested-from
   bodies-misnested h e = go (p .named) refl (p .stands)
     where
-      go : (s : Option (List ℕ)) → p .named ≡ s → Stands m s → Misnested ≡ bodies-answer (bodies-from img 0 n)
+      go : (s : Option (List ℕ)) → p .named ≡ s → Stands m s → bodies-number Misnested ≡ bodies-refusal (bodies-from img 0 n)
       go none q z = rw (all h, p .rest [], q)
       go (some gs) q (nested z y) = absurd (e z)
 
-  pub bodies-sound : n ≤ f → getD m 0 0 ≡ 0 → Sound ≡ bodies-answer (bodies-from img 0 n)
-  unfolding answer bodies-answer all-read nesting-of nested-from nested-well
+  pub bodies-sound : n ≤ f → getD m 0 0 ≡ 0 → bodies-number Sound ≡ bodies-refusal (bodies-from img 0 n)
+  unfolding bodies-number bodies-refusal unless all-read nesting-of nested-from nested-well
   bodies-sound h e = go (p .named) refl (p .stands)
     where
-      go : (s : Option (List ℕ)) → p .named ≡ s → Stands m s → Sound ≡ bodies-answer (bodies-from img 0 n)
+      go : (s : Option (List ℕ)) → p .named ≡ s → Stands m s → bodies-number Sound ≡ bodies-refusal (bodies-from img 0 n)
       go none q (misnested z) = absurd (omega arith)
       go (some gs) q z = rw (all h, p .rest [], q)
 

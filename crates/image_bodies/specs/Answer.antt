@@ -1,19 +1,19 @@
 -- What the pass over all bodies answers. Assumes nothing.
-use mathlib.Core.Bool.{Bool, true, false}
+use Prim.Native.Nat.{ℕ}
 use mathlib.Core.Option.{Option}
 use mathlib.Core.List.{List}
 use Rattle.image_bodies.specs.declared.nesting.Bodies.{Bodies}
 use Rattle.image_bodies.specs.declared.nesting.Bodies.the-variants.{Broken, Misnested, Sound}
 use Rattle.image.specs.Body.{Body}
 use Rattle.image.specs.Nesting.{nesting-of}
-use Rattle.image.specs.Check.{all-read}
+use Rattle.image.specs.Check.{all-read, unless}
 
--- whether all bodies read, and whether they nest well
-unfoldable pub answer : (read nested : Bool) → Bodies
-answer false nested = Broken
-answer true false = Misnested
-answer true true = Sound
+-- the number of each answer: "9", "10", or neither
+unfoldable pub bodies-number : Bodies → ℕ
+bodies-number Broken = 9
+bodies-number Misnested = 10
+bodies-number Sound = 0
 
--- Broken where a body doesn't read (9), else Misnested where nesting is broken (10), else Sound
-unfoldable pub bodies-answer : Option (List Body) → Bodies
-bodies-answer o = answer (all-read o) (nesting-of o)
+-- 9 where a body doesn't read, else 10 where nesting is broken, else 0
+unfoldable pub bodies-refusal : Option (List Body) → ℕ
+bodies-refusal o = unless (all-read o) 9 (unless (nesting-of o) 10 0)

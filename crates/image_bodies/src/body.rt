@@ -1,5 +1,6 @@
 // Blocks and bodies.
 use image::Limits;
+use image::markers;
 use image_instructions::instruction::instructions;
 use image_instructions::read::Next;
 use image_instructions::read::identifier_list;
@@ -62,7 +63,7 @@ pub fn body(img: &[u32], marks: &mut [u8], l: Limits, f: u32, at: usize, end: us
     if end - at < 3 {
         return Next::Broken;
     }
-    if img[at] >= 3 {
+    if img[at] >= markers::FN_TYPES {
         return Next::Broken;
     }
     if img[at + 1] >= l.identifiers {

@@ -5,13 +5,14 @@ use image::Table;
 use image::cell;
 use image::count;
 use image::limits_of;
+use image::refusals;
 use image_instructions::read::Next;
 ghost use mathlib.Core.Path.{_≡_};
 ghost use Prim.Native.Nat.{_≤_};
 ghost use Rattle.image.specs.Image.{count as count-of};
 ghost use Rattle.image.specs.Laid.{Bodies-inside};
 ghost use Rattle.image.specs.Body.{body-at, bodies};
-ghost use Rattle.image_bodies.specs.Answer.{bodies-answer};
+ghost use Rattle.image_bodies.specs.Answer.{bodies-number, bodies-refusal};
 ghost use Rattle.image_instructions.specs.Marks.{Whole, Markable, Unmarked};
 ghost use Rattle.image.specs.declared.Table.the-variants.{Functions};
 
@@ -38,7 +39,7 @@ fn body_whole(img: &[u32], marks: &mut [u8], l: Limits, f: u32) -> bool
 // Every body, with marks of none.
 fn bodies_marked(img: &[u32], marks: &mut [u8]) -> Bodies
     requires { ⌜ Unmarked (now img) (now marks) ⌝ }
-    ensures { λ r. ⌜ r ≡ bodies-answer (bodies (now (img .entry))) ⌝ }
+    ensures { λ r. ⌜ bodies-number r ≡ bodies-refusal (bodies (now (img .entry))) ⌝ }
 {
     let l = limits_of(img);
     let n = l.functions;
@@ -58,7 +59,7 @@ fn bodies_marked(img: &[u32], marks: &mut [u8]) -> Bodies
 fn bodies_of_few(img: &[u32]) -> Bodies
     requires { ⌜ Bodies-inside (now img) ⌝ }
     requires { ⌜ count-of Functions (now img) ≤ 64 ⌝ }
-    ensures { λ r. ⌜ r ≡ bodies-answer (bodies (now (img .entry))) ⌝ }
+    ensures { λ r. ⌜ bodies-number r ≡ bodies-refusal (bodies (now (img .entry))) ⌝ }
 {
     let mut marks = [0u8; 64];
     bodies_marked(img, &mut marks)
@@ -67,7 +68,7 @@ fn bodies_of_few(img: &[u32]) -> Bodies
 // An image has room for at most 32,768 rows of two words.
 fn bodies_of_any(img: &[u32]) -> Bodies
     requires { ⌜ Bodies-inside (now img) ⌝ }
-    ensures { λ r. ⌜ r ≡ bodies-answer (bodies (now (img .entry))) ⌝ }
+    ensures { λ r. ⌜ bodies-number r ≡ bodies-refusal (bodies (now (img .entry))) ⌝ }
 {
     let mut marks = [0u8; 32768];
     bodies_marked(img, &mut marks)
@@ -76,10 +77,21 @@ fn bodies_of_any(img: &[u32]) -> Bodies
 // Reads every body once.
 pub fn bodies_read(img: &[u32]) -> Bodies
     requires { ⌜ Bodies-inside (now img) ⌝ }
-    ensures { λ r. ⌜ r ≡ bodies-answer (bodies (now (img .entry))) ⌝ }
+    ensures { λ r. ⌜ bodies-number r ≡ bodies-refusal (bodies (now (img .entry))) ⌝ }
 {
     if count(img, Table::Functions) <= 64 {
         return bodies_of_few(img);
     }
     bodies_of_any(img)
+}
+
+// The number of an answer.
+pub fn bodies_number(read: Bodies) -> u32
+    ensures { λ r. ⌜ r ≡ bodies-number read ⌝ }
+{
+    match read {
+        Bodies::Broken => refusals::BODIES,
+        Bodies::Misnested => refusals::NESTING,
+        Bodies::Sound => 0,
+    }
 }

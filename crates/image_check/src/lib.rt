@@ -3,7 +3,11 @@ ghost use mathlib.Core.Path.{_≡_};
 ghost use Rattle.image.specs.Check.{unless, bodies-sound, check-tables, check as check-of};
 ghost use Rattle.image.specs.Nesting.{nesting-sound};
 ghost use Rattle.image.specs.Laid.{Bodies-inside, Sized-inputs};
-use image_bodies::nesting::Bodies;
+use image::LIMIT;
+use image::WORK_WORDS_EACH;
+use image::header;
+use image::refusals;
+use image_bodies::nesting::bodies_number;
 use image_bodies::nesting::bodies_read;
 use image_bodies::overlap::bodies_apart;
 use image_shapes::shapes::shapes_sound;
@@ -11,38 +15,34 @@ use image_shapes::types::types_sound;
 use image_tables::header_sound;
 use image_tables::references_sound;
 
-// 9 and 10
+// The bodies and their nesting.
 fn check_bodies(img: &[u32]) -> u32
     requires { ⌜ Bodies-inside (now img) ⌝ }
     ensures { λ r. ⌜ r ≡ unless (bodies-sound (now (img .entry))) 9 (unless (nesting-sound (now (img .entry))) 10 0) ⌝ }
 {
     let read = bodies_read(img);
     if !bodies_apart(img) {
-        return 9;
+        return refusals::BODIES;
     }
-    match read {
-        Bodies::Broken => 9,
-        Bodies::Misnested => 10,
-        Bodies::Sound => 0,
-    }
+    bodies_number(read)
 }
 
-// 5 to 10
+// From the header on.
 fn check_tables(img: &[u32], bytes: &[u8]) -> u32
     requires { ⌜ Sized-inputs (now img) (now bytes) ⌝ }
     ensures { λ r. ⌜ r ≡ check-tables (now (img .entry)) (now (bytes .entry)) ⌝ }
 {
     if !header_sound(img) {
-        return 5;
+        return refusals::HEADER;
     }
     if !references_sound(img, bytes.len()) {
-        return 6;
+        return refusals::REFERENCES;
     }
     if !types_sound(img, bytes) {
-        return 7;
+        return refusals::TYPES;
     }
     if !shapes_sound(img, bytes) {
-        return 8;
+        return refusals::SHAPES;
     }
     check_bodies(img)
 }
@@ -51,20 +51,20 @@ fn check_tables(img: &[u32], bytes: &[u8]) -> u32
 pub fn check(img: &[u32], bytes: &[u8], budget: u32, work: usize) -> u32
     ensures { λ r. ⌜ r ≡ check-of (now (img .entry)) (now (bytes .entry)) budget work ⌝ }
 {
-    if img.len() < 20 {
-        return 1;
+    if img.len() < header::WORDS {
+        return refusals::IMAGE_WORDS;
     }
-    if img.len() > 65536 {
-        return 1;
+    if img.len() > LIMIT {
+        return refusals::IMAGE_WORDS;
     }
-    if bytes.len() > 65536 {
-        return 2;
+    if bytes.len() > LIMIT {
+        return refusals::NAME_BYTES;
     }
-    if budget > 65536 {
-        return 3;
+    if budget as usize > LIMIT {
+        return refusals::BUDGET;
     }
-    if work < 8 * (img.len() + budget as usize) {
-        return 4;
+    if work < WORK_WORDS_EACH * (img.len() + budget as usize) {
+        return refusals::WORK_WORDS;
     }
     check_tables(img, bytes)
 }

@@ -3,6 +3,8 @@ use crate::marks::note;
 use crate::read::Next;
 use image::Limits;
 use image::NONE;
+use image::kinds;
+use image::tags;
 ghost use mathlib.Core.Path.{_≡_};
 ghost use mathlib.Core.Bool.{_||_};
 ghost use Prim.Native.Nat.{_≤_, _<_};
@@ -16,8 +18,31 @@ ghost use Rattle.image_instructions.specs.Marks.{Notes, named-by};
 ghost use Rattle.image_instructions.specs.Coded.{Coded, aux-of, tags-of, items-coded};
 ghost use Rattle.image_instructions.specs.Cursor.{Cursor, Ends};
 
-// The forms by kind. Hundreds, the aux word: 0 unused, 1 flag, 2 name, 3 type, 4 function. Tens: how many places come first.
-// Units, what follows: 0 nothing, 1 places, 2 arguments, 3 elements, 4 properties, 5 attributes, 6 a pattern and its value.
+// What the aux word is.
+const UNUSED: u16 = 0;
+
+const FLAG: u16 = 1;
+
+const NAME: u16 = 2;
+
+const TYPE: u16 = 3;
+
+const FUNCTION: u16 = 4;
+
+// What items follow the places that come first; the last: a pattern and its value.
+const NOTHING: u16 = 0;
+
+const PLACES: u16 = 1;
+
+const ARGUMENTS: u16 = 2;
+
+const ELEMENTS: u16 = 3;
+
+const PROPERTIES: u16 = 4;
+
+const PATTERN: u16 = 6;
+
+// The forms by kind. Hundreds: what the aux word is. Tens: how many places come first. Units: what follows, 5 for attributes.
 const FORMS: [u16; 42] = [
     10, // LoadLocal
     10, // LoadContext
@@ -83,10 +108,10 @@ fn aux_allowed(l: Limits, class: u16, w: u32) -> bool
     ensures { λ r. ⌜ r ≡ aux-fits l (aux-of class) w ⌝ }
 {
     match class {
-        0 => w < 1,
-        1 => w < 2,
-        2 => below_or_none(w, l.names),
-        3 => below_or_none(w, l.types),
+        UNUSED => w < 1,
+        FLAG => w < 2,
+        NAME => below_or_none(w, l.names),
+        TYPE => below_or_none(w, l.types),
         _ => w < l.functions,
     }
 }
@@ -94,33 +119,33 @@ fn aux_allowed(l: Limits, class: u16, w: u32) -> bool
 fn property_tag(tag: u32) -> bool
     ensures { λ r. ⌜ r ≡ one-of (tags-of 4) tag ⌝ }
 {
-    if tag == 1 {
+    if tag == tags::SPREAD {
         return true;
     }
-    if tag < 3 {
+    if tag < tags::NAMED_KEY {
         return false;
     }
-    tag < 6
+    tag < tags::ATTRIBUTE
 }
 
 fn attribute_tag(tag: u32) -> bool
     ensures { λ r. ⌜ r ≡ one-of (tags-of 5) tag ⌝ }
 {
-    if tag == 6 {
+    if tag == tags::ATTRIBUTE {
         return true;
     }
-    tag < 2
+    tag < tags::HOLE
 }
 
 fn tag_allowed(class: u16, tag: u32) -> bool
     ensures { λ r. ⌜ r ≡ one-of (tags-of class) tag ⌝ }
 {
     match class {
-        0 => false,
-        1 => tag < 1,
-        2 => tag < 2,
-        3 => tag < 3,
-        4 => property_tag(tag),
+        NOTHING => false,
+        PLACES => tag < tags::SPREAD,
+        ARGUMENTS => tag < tags::HOLE,
+        ELEMENTS => tag < tags::NAMED_KEY,
+        PROPERTIES => property_tag(tag),
         _ => attribute_tag(tag),
     }
 }
@@ -129,7 +154,7 @@ fn tag_allowed(class: u16, tag: u32) -> bool
 fn identifiers_for(l: Limits, tag: u32) -> u32
     ensures { λ r. ⌜ r ≡ item-identifiers l tag ⌝ }
 {
-    if tag == 2 {
+    if tag == tags::HOLE {
         return 1;
     }
     l.identifiers
@@ -139,8 +164,8 @@ fn keys_for(l: Limits, tag: u32) -> u32
     ensures { λ r. ⌜ r ≡ item-keys l tag ⌝ }
 {
     match tag {
-        3 | 6 => l.names,
-        4 => l.identifiers,
+        tags::NAMED_KEY | tags::ATTRIBUTE => l.names,
+        tags::COMPUTED_KEY => l.identifiers,
         _ => 1,
     }
 }
@@ -209,20 +234,20 @@ fn items_by(img: &[u32], l: Limits, at: usize, end: usize, form: u16, aux: u32, 
     ensures { λ r. ⌜ Ends (now (img .entry)) end (items-of l (items-coded form) aux n (between (now (img .entry)) at end)) r ⌝ }
 {
     let tags = form % 10;
-    if tags == 6 {
+    if tags == PATTERN {
         if n < 1 {
             return Next::Broken;
         }
         if aux == 0 {
-            return runs(img, l, at, end, 3, n - 1, 1, 1);
+            return runs(img, l, at, end, ELEMENTS, n - 1, PLACES, 1);
         }
-        return runs(img, l, at, end, 4, n - 1, 1, 1);
+        return runs(img, l, at, end, PROPERTIES, n - 1, PLACES, 1);
     }
     let places = (form / 10 % 10) as u32;
     if n < places {
         return Next::Broken;
     }
-    runs(img, l, at, end, 1, places, tags, n - places)
+    runs(img, l, at, end, PLACES, places, tags, n - places)
 }
 
 // An instruction of function f: kind, lvalue, aux, n, then n items.
@@ -235,7 +260,7 @@ fn instruction(img: &[u32], marks: &mut [u8], l: Limits, f: u32, at: usize, end:
         return Next::Broken;
     }
     let kind = img[at];
-    if kind >= 42 {
+    if kind >= kinds::COUNT {
         return Next::Broken;
     }
     let code = form(kind);
@@ -247,7 +272,7 @@ fn instruction(img: &[u32], marks: &mut [u8], l: Limits, f: u32, at: usize, end:
         return Next::Broken;
     }
     let next = items_by(img, l, at + 4, end, code, aux, img[at + 3]);
-    if code / 100 >= 4 {
+    if code / 100 >= FUNCTION {
         note(marks, f, aux);
     }
     next

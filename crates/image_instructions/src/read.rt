@@ -1,5 +1,6 @@
 // Parts of a body of which only the end matters: identifiers, parameters, phis, terminals.
 use image::Limits;
+use image::markers;
 ghost use Rattle.image.specs.Read.{many, counted, between};
 ghost use Rattle.image.specs.Body.{identifier, param, phi-node, terminal as terminal-of};
 ghost use Rattle.image_instructions.specs.Cursor.{Cursor, Ends};
@@ -52,7 +53,7 @@ pub fn params(img: &[u32], l: Limits, from: usize, end: usize, n: u32) -> Next
         if end - at < 2 {
             return Next::Broken;
         }
-        if img[at] >= 2 {
+        if img[at] >= markers::PARAM_KINDS {
             return Next::Broken;
         }
         if img[at + 1] >= l.identifiers {
@@ -96,10 +97,14 @@ pub fn terminal(img: &[u32], l: Limits, at: usize, end: usize) -> Next
         return Next::Broken;
     }
     let t = img[at];
-    if t >= 2 {
+    if t >= markers::TERMINALS {
         return Next::Broken;
     }
-    let bound = if t == 0 { 1 } else { l.identifiers };
+    let bound = if t == markers::NO_RETURN {
+        1
+    } else {
+        l.identifiers
+    };
     if img[at + 1] >= bound {
         return Next::Broken;
     }

@@ -24,7 +24,7 @@ fn shape_fits(img: &[u32], s: u32) -> bool
     let present = cell(img, Table::Shapes, s, 0);
     let first = cell(img, Table::Shapes, s, 1);
     let n = cell(img, Table::Shapes, s, 2);
-    if 1 < present {
+    if image::shapes::PRESENT < present {
         return false;
     }
     if rows < first {
@@ -33,7 +33,7 @@ fn shape_fits(img: &[u32], s: u32) -> bool
     if rows - first < n {
         return false;
     }
-    if present == 1 {
+    if present == image::shapes::PRESENT {
         return true;
     }
     n == 0
@@ -144,7 +144,7 @@ pub fn shapes_sound(img: &[u32], bytes: &[u8]) -> bool
     ensures { λ r. ⌜ r ≡ shapes-sound (now (img .entry)) (now (bytes .entry)) ⌝ }
 {
     let shapes = count(img, Table::Shapes);
-    if shapes < 9 {
+    if shapes < image::shapes::COUNT {
         return false;
     }
     let mut left = count(img, Table::Properties);

@@ -12,6 +12,7 @@ use crate::large::in_large_arrays;
 use image::Table;
 use image::cell;
 use image::count;
+use image::type_kinds;
 use image_tables::in_table_or_none;
 
 // The words of a type without parts, 0 unless a fits and b is unused.
@@ -38,7 +39,7 @@ fn function_words(img: &[u32], sizes: &[u16], n: u32, a: u32, b: u32) -> u32
         return 0;
     }
     let words = 2 + sizes[b as usize] as u32;
-    if words > 4096 {
+    if words > type_kinds::LONGEST {
         return 0;
     }
     words
@@ -60,7 +61,7 @@ fn phi_words(img: &[u32], sizes: &[u16], n: u32, a: u32, b: u32) -> u32
             return 0;
         }
         words += sizes[t as usize] as u32;
-        if words > 4096 {
+        if words > type_kinds::LONGEST {
             return 0;
         }
         k += 1;
@@ -77,11 +78,15 @@ fn type_words(img: &[u32], sizes: &[u16], n: u32) -> u32
     let a = cell(img, Table::Types, n, 1);
     let b = cell(img, Table::Types, n, 2);
     match kind {
-        0 => leaf_words(a < count(img, Table::Slots), b, 2),
-        1 | 2 | 3 => leaf_words(a == 0, b, 1),
-        4 => leaf_words(in_table_or_none(img, Table::Shapes, a), b, 2),
-        5 | 6 => function_words(img, sizes, n, a, b),
-        7 => phi_words(img, sizes, n, a, b),
+        type_kinds::VAR => leaf_words(a < count(img, Table::Slots), b, 2),
+        type_kinds::PRIMITIVE | type_kinds::POLY | type_kinds::OBJECT_METHOD => leaf_words(
+            a == 0,
+            b,
+            1,
+        ),
+        type_kinds::OBJECT => leaf_words(in_table_or_none(img, Table::Shapes, a), b, 2),
+        type_kinds::FUNCTION | type_kinds::CONSTRUCTOR => function_words(img, sizes, n, a, b),
+        type_kinds::PHI => phi_words(img, sizes, n, a, b),
         _ => 0,
     }
 }

@@ -9,6 +9,7 @@ use image::NONE;
 use image::Table;
 use image::cell;
 use image::count;
+use image::header;
 use image::offset;
 use image::row_words;
 
@@ -48,7 +49,7 @@ fn table_fits(img: &[u32], t: Table) -> bool
 {
     let start = offset(img, t) as usize;
     let words = count(img, t) as usize * row_words(img, t);
-    both(20 <= start, start + words <= img.len())
+    both(header::WORDS <= start, start + words <= img.len())
 }
 
 fn tables_fit(img: &[u32]) -> bool
@@ -70,10 +71,10 @@ pub fn header_sound(img: &[u32]) -> bool
     requires { ⌜ 20 ≤ length (now img) ⌝ }
     ensures { λ r. ⌜ r ≡ header-sound (now (img .entry)) ⌝ }
 {
-    let length = both(img[19] as usize == img.len(), tables_fit(img));
+    let length = both(img[header::LENGTH] as usize == img.len(), tables_fit(img));
     let functions = both(0 < count(img, Table::Functions), length);
-    let options = both(img[1] <= 3, functions);
-    both(img[0] == 1, options)
+    let options = both(img[header::OPTIONS] <= header::ALL_OPTIONS, functions);
+    both(img[header::VERSION] == header::VERSION_ONE, options)
 }
 
 // What row n of a table refers to.
@@ -139,5 +140,8 @@ pub fn references_sound(img: &[u32], name_bytes: usize) -> bool
     let d = both(table_sound(img, name_bytes, Table::Slots), e);
     let c = both(table_sound(img, name_bytes, Table::Identifiers), d);
     let b = both(table_sound(img, name_bytes, Table::Names), c);
-    both(in_table_or_none(img, Table::Types, img[2]), b)
+    both(
+        in_table_or_none(img, Table::Types, img[header::HOOK_TYPE]),
+        b,
+    )
 }
