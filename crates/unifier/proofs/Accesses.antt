@@ -2,7 +2,7 @@
 use mathlib.Core.Path.{_≡_, refl, sym, ap, _∙_}
 use mathlib.Core.Bool.{Bool, true, false}
 use mathlib.Core.List.{List}
-use Prim.Native.Nat.{ℕ, suc, _≤_, _<_}
+use Prim.Native.Nat.{ℕ, zero, suc, _≤_, _<_}
 use native.Mathlib.Omega.{arith}
 use lib.ListN.{length}
 use Rattle.image.specs.Ty.{USE-REF, REF-VALUE, Ty, object}
@@ -17,7 +17,7 @@ use Rattle.unifier_nodes.specs.Work.{Rep, Room, Frame}
 use Rattle.unifier_nodes.specs.Promises.{Gives, Keeps, Known-both, Binds}
 use Rattle.unifier_properties.specs.Lookup.{registry-of, key-name, found-in, lookup-shape, lookup-number, Looked-up, Gives-shape}
 use Rattle.unifier_nodes.specs.Walks.{type-node, Type-placed, Types-laid}
-use Rattle.unifier.specs.Accesses.{unify-as-ref, unify-by-name, Refs-laid, Access-asked, Accesses}
+use Rattle.unifier.specs.Accesses.{unify-as-ref, unify-by-name, unify-access, Refs-laid, Access-asked, Accesses}
 use Rattle.unifier.specs.declared.access.Places.{Places}
 use Rattle.unifier_properties.specs.declared.Entry.{Entry}
 use Rattle.unifier_properties.specs.declared.Entry.the-variants.{Is, Missing}
@@ -123,24 +123,17 @@ module _ {img w : List ℕ} {lo n shape : ℕ} {l : Lookup} {e : Entry} (bytes :
         unifies-as (rw (lookup-as (st .top) o f q′ ∙ number-given l (sym m ∙ c) h .1)) (k .means σ t (type-at img i) good q (rw d (laid .rep i (found-inside h m c))));
   }
 
--- what the definition does in each case
-module _ (reg : Registry) (σ : Log) (t : Ty) (x : Access) where
-  property-none : unify-property reg σ 0 t x ≡ refused out-of-steps 0 σ
-  unfolding unify-property
-  property-none = refl
+-- the definition's access is the one that its test says
+tested-access : (reg : Registry) (σ : Log) (s : ℕ) (t : Ty) (x : Access) (b : Bool) → is-ref-access reg x ≡ b
+    → unify-property reg σ s t x ≡ unify-access b reg (x .property-name) σ s t (x .object-type)
+unfolding unify-property unify-access
+tested-access reg σ zero t x b e = refl
+tested-access reg σ (suc s) t x true e = rw (unify-property, e)
+tested-access reg σ (suc s) t x false e = rw (unify-property, e)
 
-  module _ {left s : ℕ} (e : left ≡ suc s) where
-    property-ref : is-ref-access reg x ≡ true → unify-property reg σ left t x ≡ unify-as-ref σ s t (x .object-type)
-    unfolding unify-property
-    property-ref q = rw e (rw (q, unify-property))
-
-    property-get : {u : Ty} {name : PropertyNameKind} → x .object-type ≡ u → x .property-name ≡ name → is-ref-access reg x ≡ false
-        → unify-property reg σ left t x ≡ and-then (get σ s u) (λ o s₁. unify-by-name reg name σ s₁ t o)
-    unfolding unify-property
-    property-get {u} d n q =
-        rw e (rw (q, unify-property))
-        ∙ ap (λ (v : Ty). and-then (get σ s v) (λ o s₁. unify-by-name reg (x .property-name) σ s₁ t o)) d
-        ∙ ap (λ (m : PropertyNameKind). and-then (get σ s u) (λ o s₁. unify-by-name reg m σ s₁ t o)) n
+pub property-access : (reg : Registry) (σ : Log) (s : ℕ) (t : Ty) (x : Access) {u : Ty} {b : Bool} → x .object-type ≡ u → is-ref-access reg x ≡ b
+    → unify-property reg σ s t x ≡ unify-access b reg (x .property-name) σ s t u
+property-access reg σ s t x {b = b} d e = rw (← d) (tested-access reg σ s t x b e)
 
 -- what `get` keeps after a charge
 got-keeps : {w w₁ : List ℕ} {lo l obj : ℕ} {st : State} {g : Got} → st .left ≡ suc l → Gives w w₁ lo (restated st l 0) obj g → Keeps w w₁ lo st (after st g)
@@ -152,38 +145,46 @@ got-keeps {w} {w₁} {lo} {l} {st = st} {g = g} e h =
 module _ {img bytes w : List ℕ} {lo : ℕ} {st : State} {a obj : ℕ} {key : Key} {b : Bool} where
   -- no step is left
   pub access-spent : st .left ≡ 0 → Accesses img bytes w w lo st a obj key b (restated st 0 13)
-  unfolding number-of
+  unfolding number-of unify-access
   access-spent z = record {
-    keeps = keeps-still w lo st 0 13 (omega arith);
-    means = λ σ t u x good p q d n k.
-        unifies-refused (record { why = out-of-steps; log = σ; is = rw z (property-none (registry-of img bytes) σ t x); by-number = refl; good = good });
+    binds = record {
+      keeps = keeps-still w lo st 0 13 (omega arith);
+      means = λ σ t u good p q. unifies-refused (record { why = out-of-steps; log = σ; is = rw z; by-number = refl; good = good });
+    };
   }
 
   module _ {l : ℕ} (e : st .left ≡ suc l) where
     pub access-ref : {w′ : List ℕ} {r : State} → b ≡ true → Binds unify-as-ref w w′ lo (restated st l 0) a obj r → Accesses img bytes w w′ lo st a obj key b r
+    unfolding unify-access
     access-ref c h = record {
-      keeps = keeps-charged (omega arith) (h .keeps);
-      means = λ σ t u x good p q d n k.
-          unifies-as (property-ref (registry-of img bytes) σ t x e (k ∙ c) ∙ ap (λ (v : Ty). unify-as-ref σ l t v) d) (h .means σ t u good p q);
+      binds = record {
+        keeps = keeps-charged (omega arith) (h .keeps);
+        means = λ σ t u good p q. unifies-as (rw (e, c)) (h .means σ t u good p q);
+      };
     }
 
     module _ {w₁ : List ℕ} {g : Got} (c : b ≡ false) (h : Gives w w₁ lo (restated st l 0) obj g) where
       -- no step was left to resolve the object
       pub access-refused : (g .refused ≡ 0 → ⊥) → Accesses img bytes w w₁ lo st a obj key b (after st g)
+      unfolding unify-access
       access-refused z = record {
-        keeps = got-keeps e h;
-        means = λ σ t u x good p q d n k. unifies-refused (refuses-then _ (property-get (registry-of img bytes) σ t x e d n (k ∙ c)) (h .means σ u good q .ended z));
+        binds = record {
+          keeps = got-keeps e h;
+          means = λ σ t u good p q. unifies-refused (refuses-then (λ o s₁. unify-by-name (registry-of img bytes) (key-name img bytes key) σ s₁ t o) (rw (e, c)) (h .means σ u good q .ended z));
+        };
       }
 
       pub access-found : {w₂ : List ℕ} {r : State} → g .refused ≡ 0
           → Binds (unify-by-name (registry-of img bytes) (key-name img bytes key)) w₁ w₂ lo (after st g) a (g .node) r → Accesses img bytes w w₂ lo st a obj key b r
-      unfolding and-then
+      unfolding and-then unify-access
       access-found z f = record {
-        keeps = keeps-trans (got-keeps e h) (f .keeps);
-        means = λ σ t u x good p q d n k.
-            let y = h .means σ u good q .finished z in
-            unifies-as (property-get (registry-of img bytes) σ t x e d n (k ∙ c) ∙ rw (y .1))
-            (f .means σ t (y .0) (good-same w₁ (g .top) (h .frame .grows) (h .frame .below) good) (rep-later (frame-from lo (h .frame)) p) (y .2));
+        binds = record {
+          keeps = keeps-trans (got-keeps e h) (f .keeps);
+          means = λ σ t u good p q.
+              let y = h .means σ u good q .finished z in
+              unifies-as (rw (e, c, unify-access, y .1))
+              (f .means σ t (y .0) (good-same w₁ (g .top) (h .frame .grows) (h .frame .below) good) (rep-later (frame-from lo (h .frame)) p) (y .2));
+        };
       }
 
 -- what is asked at each call

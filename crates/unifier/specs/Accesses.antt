@@ -1,16 +1,16 @@
 -- `unify` with a Property on the right, over the work words: what it asks and what it promises. Assumes nothing.
-use Prim.Native.Nat.{ℕ}
-use mathlib.Core.Path.{_≡_}
-use mathlib.Core.Bool.{Bool}
+use Prim.Native.Nat.{ℕ, zero, suc}
+use mathlib.Core.Bool.{Bool, true, false}
 use mathlib.Core.List.{List}
 use Rattle.image.specs.Ty.{USE-REF, REF-VALUE, Ty, object}
 use Rattle.unifier_definition.specs.Log.{Log}
-use Rattle.unifier_definition.specs.Outcome.{Outcome, and-then}
-use Rattle.unifier_definition.specs.Property.{PropertyNameKind, Access, Registry, resolve-property-type, is-ref-access}
-use Rattle.unifier_definition.specs.Unify.{unify, unify-found, unify-property}
-use Rattle.unifier_nodes.specs.Work.{Rep, Good, Room}
-use Rattle.unifier_nodes.specs.Walks.{Unifies, Types-laid}
-use Rattle.unifier_nodes.specs.Promises.{Keeps, Known-both}
+use Rattle.unifier_definition.specs.Outcome.{Outcome, out-of-steps, refused, and-then}
+use Rattle.unifier_definition.specs.Property.{PropertyNameKind, Registry, resolve-property-type}
+use Rattle.unifier_definition.specs.Resolve.{get}
+use Rattle.unifier_definition.specs.Unify.{unify, unify-found}
+use Rattle.unifier_nodes.specs.Work.{Rep, Room}
+use Rattle.unifier_nodes.specs.Walks.{Types-laid}
+use Rattle.unifier_nodes.specs.Promises.{Known-both, Binds}
 use Rattle.unifier_properties.specs.Lookup.{registry-of, key-name, Registry-inside, Key-inside}
 use Rattle.unifier.specs.declared.access.Places.{Places}
 use Rattle.unifier_properties.specs.declared.Key.{Key}
@@ -23,6 +23,12 @@ unify-as-ref σ s t u = and-then (unify σ s u (object USE-REF)) (λ σ₁ s₁.
 -- `unify` of t with the type of a property of this name, on an object that was resolved to o
 abbrev pub unify-by-name : Registry → PropertyNameKind → Log → ℕ → Ty → Ty → Outcome Log
 unify-by-name reg name σ s t o = unify-found σ s t (resolve-property-type reg o name)
+
+-- `unify` of t with a property of this name of an object of type u, its charge included; ref-like: it is taken for a ref access
+unfoldable pub unify-access : Bool → Registry → PropertyNameKind → Log → ℕ → Ty → Ty → Outcome Log
+unify-access ref-like reg name σ zero t u = refused out-of-steps 0 σ
+unify-access true reg name σ (suc s) t u = unify-as-ref σ s t u
+unify-access false reg name σ (suc s) t u = and-then (get σ s u) (λ o s₁. unify-by-name reg name σ s₁ t o)
 
 -- the Objects of USE-REF and REF-VALUE stand at theirs
 pub record Refs-laid (w : List ℕ) (top : ℕ) (p : Places) : Type 0 where
@@ -40,7 +46,4 @@ pub record Access-asked (img bytes w : List ℕ) (p : Places) (st : State) (a ob
 
 -- the promise of `unify_property`
 pub record Accesses (img bytes w w′ : List ℕ) (lo : ℕ) (st : State) (a obj : ℕ) (key : Key) (ref-like : Bool) (r : State) : Type 0 where
-  pub keeps : Keeps w w′ lo st r
-  pub means : (σ : Log) (t u : Ty) (x : Access) → Good w lo (st .top) σ → Rep w lo (st .top) a t → Rep w lo (st .top) obj u
-      → x .object-type ≡ u → x .property-name ≡ key-name img bytes key → is-ref-access (registry-of img bytes) x ≡ ref-like
-      → Unifies w′ lo r (unify-property (registry-of img bytes) σ (st .left) t x)
+  pub binds : Binds (unify-access ref-like (registry-of img bytes) (key-name img bytes key)) w w′ lo st a obj r

@@ -5,6 +5,7 @@ ghost use Rattle.unifier_nodes.specs.Promises.{Known-both, Binds};
 ghost use Rattle.unifier_properties.specs.Lookup.{registry-of, key-name, lookup-number};
 ghost use Rattle.unifier.specs.Accesses.{unify-as-ref, unify-by-name, Refs-laid, Access-asked, Accesses};
 use crate::bind::unify;
+use image::refusals;
 use unifier_nodes::node::node_of_type;
 use unifier_nodes::state::State;
 use unifier_nodes::state::refuse;
@@ -93,7 +94,7 @@ pub fn unify_property(
 {
     let steps = st.left;
     if steps == 0 {
-        return refuse(st, 0, 13);
+        return refuse(st, 0, refusals::OUT_OF_STEPS);
     }
     let next = refuse(st, steps - 1, 0);
     if ref_like {

@@ -8,6 +8,8 @@ ghost use Rattle.unifier.specs.Choices.{Binds-slot, unify-as-functions, 
 ghost use Rattle.unifier_definition.specs.Unify.{unify as unify-types, bind-variable-to, bind-unbound, bind-checked, bind-resolved};
 ghost use Rattle.unifier_nodes.specs.declared.node.Node.the-variants.{Phi};
 use image::TypeId;
+use image::refusals;
+use image::type_kinds;
 use unifier_nodes::node::Candidate;
 use unifier_nodes::node::Node;
 use unifier_nodes::node::kind_of;
@@ -30,7 +32,7 @@ pub fn unify(w: &mut [u32], lo: u32, st: State, a: u32, b: u32) -> State
 {
     let steps = st.left;
     if steps == 0 {
-        return refuse(st, 0, 13);
+        return refuse(st, 0, refusals::OUT_OF_STEPS);
     }
     let next = refuse(st, steps - 1, 0);
     if type_equals(w, lo, a, b) {
@@ -72,13 +74,13 @@ pub fn bind_variable_to(w: &mut [u32], lo: u32, st: State, v: u32, ty: u32) -> S
 {
     let left = st.left;
     if left == 0 {
-        return refuse(st, 0, 13);
+        return refuse(st, 0, refusals::OUT_OF_STEPS);
     }
     let next = refuse(st, left - 1, 0);
     let Node::Var(slot) = node_at(w, lo, v) else {
         return next;
     };
-    if kind_of(w, lo, ty) == 2 {
+    if kind_of(w, lo, ty) == type_kinds::POLY {
         return next;
     }
     let bound = w[slot.0 as usize];
@@ -169,7 +171,7 @@ fn bind_phi(w: &mut [u32], lo: u32, st: State, slot: TypeId, ty: u32, at: u32, c
 {
     let left = st.left;
     if count == 0 {
-        return refuse(st, left, 11);
+        return refuse(st, left, refusals::EMPTY_PHI);
     }
     let stack = st.stack;
     let n = w[at as usize];
@@ -207,7 +209,7 @@ fn bind_checked(w: &mut [u32], lo: u32, st: State, slot: TypeId, ty: u32) -> Sta
     ensures { λ r. ⌜ Binds-slot bind-checked (now (w .entry)) (now (w .exit)) lo st (slot .0) ty r ⌝ }
 {
     match occurs_check(w, lo, st.left, slot, ty) {
-        Occurs::Spent => refuse(st, 0, 13),
+        Occurs::Spent => refuse(st, 0, refusals::OUT_OF_STEPS),
         Occurs::Yes(left) => bind_resolved(w, lo, refuse(st, left, 0), slot, ty),
         Occurs::No(left) => {
             w[slot.0 as usize] = ty + 1;
@@ -238,7 +240,7 @@ fn bind_resolved(w: &mut [u32], lo: u32, st: State, slot: TypeId, ty: u32) -> St
         return next;
     }
     if mentions(w, lo, g.node, slot) {
-        return refuse(next, left, 12);
+        return refuse(next, left, refusals::CYCLE);
     }
     w[slot.0 as usize] = g.node + 1;
     next

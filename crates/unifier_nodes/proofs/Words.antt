@@ -7,7 +7,7 @@ use lib.ListN.{length, set, length-set}
 use lib.Seq.{getD-set-same, getD-set-other}
 use borrow.Author.Count.{below-none, below-more}
 use Rattle.unifier_nodes.specs.Work.{at}
-use Rattle.unifier_nodes.specs.Walks.{Wrote, Copied}
+use Rattle.unifier_nodes.specs.Walks.{with-node, Wrote, Copied}
 
 pub at-same : (w : List ℕ) (i v : ℕ) → i < length w → at (set w i v) i ≡ v
 at-same w i v h = getD-set-same w i v 0 h
@@ -15,9 +15,10 @@ at-same w i v h = getD-set-same w i v 0 h
 pub at-other : (w : List ℕ) (i j v : ℕ) → (j ≡ i → ⊥) → at (set w i v) j ≡ at w j
 at-other w i j v h = getD-set-other w i j v 0 h
 
--- three stores in a row
-pub wrote : (w : List ℕ) (top k a b : ℕ) → top + 3 ≤ length w → Wrote w (set (set (set w top k) (top + 1) a) (top + 2) b) top k a b
-wrote w top k a b h =
+-- a node's words, read back
+wrote-at : (w : List ℕ) (top k a b : ℕ) → top + 3 ≤ length w → Wrote w (with-node w top k a b) top k a b
+unfolding with-node
+wrote-at w top k a b h =
     let u : List ℕ = set w top k in
     let v : List ℕ = set u (top + 1) a in
     let lu = length-set w top k in
@@ -30,6 +31,14 @@ wrote w top k a b h =
       below = λ j lt. at-other v (top + 2) j b (omega arith) ∙ at-other u (top + 1) j a (omega arith) ∙ at-other w top j k (omega arith);
       above = λ j le. at-other v (top + 2) j b (omega arith) ∙ at-other u (top + 1) j a (omega arith) ∙ at-other w top j k (omega arith);
     }
+
+pub wrote : {w w′ : List ℕ} {top k a b : ℕ} → top + 3 ≤ length w → w′ ≡ with-node w top k a b → Wrote w w′ top k a b
+wrote {w} {top = top} {k} {a} {b} h e = rw e (wrote-at w top k a b h)
+
+-- their number stays
+pub node-length : (w : List ℕ) (top k a b : ℕ) {w′ : List ℕ} → w′ ≡ with-node w top k a b → length w′ ≡ length w
+unfolding with-node
+node-length w top k a b e = rw e (simp length-set)
 
 pub copied-none : (w : List ℕ) (to from : ℕ) → Copied w w to from 0
 copied-none w to from =

@@ -4,7 +4,7 @@ use mathlib.Core.Path.{_≡_}
 use mathlib.Core.Bool.{Bool, true, false}
 use mathlib.Core.Option.{Option, none, some}
 use mathlib.Core.List.{List}
-use lib.ListN.{length}
+use lib.ListN.{length, set}
 use lib.Dec.{eqb}
 use Rattle.image.specs.declared.Table.the-variants.{Types}
 use Rattle.image.specs.Image.{count, cell, type-at}
@@ -41,7 +41,11 @@ Shows w lo top n (Phi a c) t = (ts : Tys) × (t ≡ phi ts) × (c ≡ count-of t
 pub record Reads-node (w : List ℕ) (lo n : ℕ) (r : Node) : Type 0 where
   pub shows : (top : ℕ) (t : Ty) → top ≤ length w → Rep w lo top n t → Shows w lo top n r t
 
--- three words put at `top`
+-- the words with those of a node at `top`
+unfoldable pub with-node : List ℕ → (top kind a b : ℕ) → List ℕ
+with-node w top kind a b = set (set (set w top kind) (top + 1) a) (top + 2) b
+
+-- what that comes to, word by word
 pub record Wrote (w w′ : List ℕ) (top k a b : ℕ) : Type 0 where
   pub len : length w′ ≡ length w
   pub word0 : at w′ top ≡ k

@@ -2,11 +2,16 @@
 ghost use mathlib.Core.Path.{_≡_};
 ghost use Prim.Native.Nat.{_+_, _≤_, _<_, _^_};
 ghost use lib.ListN.{length};
-ghost use Rattle.unifier_nodes.specs.Walks.{Stands, Reads-node, Tells-kind, Wrote, type-node, Type-placed};
+ghost use Rattle.unifier_nodes.specs.Walks.{Stands, Reads-node, Tells-kind, with-node, type-node, Type-placed};
 ghost use Rattle.unifier_nodes.specs.Promises.{Stand-both, Stand-all, Leaves, Equals, Tells-shape, Unites-with, Unites, Tells-mention, Tells-mention-all};
 use image::Table;
 use image::TypeId;
 use image::cell;
+use image::shapes;
+use image::type_kinds;
+
+// The words of a node.
+pub const NODE_WORDS: u32 = 3;
 
 pub enum Node {
     Var(TypeId),
@@ -14,7 +19,7 @@ pub enum Node {
     Poly,
     ObjectMethod,
     Object(u32),
-    // 5, or 6 for a constructor; shape; return type
+    // FUNCTION or CONSTRUCTOR; shape; return type
     Function(u32, u32, u32),
     // where the operands stand, and how many they are
     Phi(u32, u32),
@@ -32,11 +37,11 @@ pub fn node_at(w: &[u32], lo: u32, n: u32) -> Node
     let a = w[i + 1];
     let b = w[i + 2];
     match kind {
-        1 => Node::Primitive,
-        2 => Node::Poly,
-        3 => Node::ObjectMethod,
-        4 => Node::Object(a),
-        7 => Node::Phi(a, b),
+        type_kinds::PRIMITIVE => Node::Primitive,
+        type_kinds::POLY => Node::Poly,
+        type_kinds::OBJECT_METHOD => Node::ObjectMethod,
+        type_kinds::OBJECT => Node::Object(a),
+        type_kinds::PHI => Node::Phi(a, b),
         _ => Node::Function(kind, a, b),
     }
 }
@@ -44,7 +49,7 @@ pub fn node_at(w: &[u32], lo: u32, n: u32) -> Node
 // Writes a node's three words.
 pub fn put_node(w: &mut [u32], top: u32, kind: u32, a: u32, b: u32)
     requires { ⌜ top + 3 ≤ length (now w) ⌝ }
-    ensures { λ _. ⌜ Wrote (now (w .entry)) (now (w .exit)) top kind a b ⌝ }
+    ensures { λ _. ⌜ now (w .exit) ≡ with-node (now (w .entry)) top kind a b ⌝ }
 {
     let i = top as usize;
     w[i] = kind;
@@ -52,13 +57,13 @@ pub fn put_node(w: &mut [u32], top: u32, kind: u32, a: u32, b: u32)
     w[i + 2] = b;
 }
 
-// The kind of a node, 0 for a Var.
+// The kind of a node.
 pub fn kind_of(w: &[u32], lo: u32, n: u32) -> u32
     requires { ⌜ Stands (now w) lo n ⌝ }
     ensures { λ r. ⌜ Tells-kind (now (w .entry)) lo n r ⌝ }
 {
     if n < lo {
-        return 0;
+        return type_kinds::VAR;
     }
     w[n as usize]
 }
@@ -68,10 +73,10 @@ pub fn node_of_type(img: &[u32], types: u32, t: u32) -> u32
     requires { ⌜ Type-placed (now img) types t ⌝ }
     ensures { λ r. ⌜ r ≡ type-node (now (img .entry)) types t ⌝ }
 {
-    if cell(img, Table::Types, t, 0) == 0 {
+    if cell(img, Table::Types, t, 0) == type_kinds::VAR {
         return cell(img, Table::Types, t, 1);
     }
-    types + 3 * t
+    types + NODE_WORDS * t
 }
 
 // The candidate type, or none.
@@ -86,9 +91,9 @@ fn leaves_equal(w: &[u32], lo: u32, a: u32, b: u32, kind: u32) -> bool
     ensures { λ r. ⌜ Equals (now (w .entry)) lo a b r ⌝ }
 {
     match kind {
-        0 => a == b,
-        1 | 2 | 3 => true,
-        4 => w[a as usize + 1] == w[b as usize + 1],
+        type_kinds::VAR => a == b,
+        type_kinds::PRIMITIVE | type_kinds::POLY | type_kinds::OBJECT_METHOD => true,
+        type_kinds::OBJECT => w[a as usize + 1] == w[b as usize + 1],
         _ => false,
     }
 }
@@ -121,7 +126,7 @@ pub fn is_object_of(w: &[u32], lo: u32, n: u32, shape: u32) -> bool
     requires { ⌜ Stands (now w) lo n ⌝ }
     ensures { λ r. ⌜ Tells-shape (now (w .entry)) lo n shape r ⌝ }
 {
-    if kind_of(w, lo, n) != 4 {
+    if kind_of(w, lo, n) != type_kinds::OBJECT {
         return false;
     }
     w[n as usize + 1] == shape
@@ -131,10 +136,10 @@ fn union_with(w: &[u32], lo: u32, readonly: u32, other: u32) -> Candidate
     requires { ⌜ Stand-both (now w) lo readonly other ⌝ }
     ensures { λ r. ⌜ Unites-with (now (w .entry)) lo readonly other r ⌝ }
 {
-    if kind_of(w, lo, other) == 1 {
+    if kind_of(w, lo, other) == type_kinds::PRIMITIVE {
         return Candidate::Found(readonly);
     }
-    if is_object_of(w, lo, other, 4) {
+    if is_object_of(w, lo, other, shapes::BUILT_IN_ARRAY_ID) {
         return Candidate::Found(other);
     }
     Candidate::Nothing
@@ -144,10 +149,10 @@ pub fn try_union_types(w: &[u32], lo: u32, a: u32, b: u32) -> Candidate
     requires { ⌜ Stand-both (now w) lo a b ⌝ }
     ensures { λ r. ⌜ Unites (now (w .entry)) lo a b r ⌝ }
 {
-    if is_object_of(w, lo, a, 8) {
+    if is_object_of(w, lo, a, shapes::BUILT_IN_MIXED_READONLY_ID) {
         return union_with(w, lo, a, b);
     }
-    if is_object_of(w, lo, b, 8) {
+    if is_object_of(w, lo, b, shapes::BUILT_IN_MIXED_READONLY_ID) {
         return union_with(w, lo, b, a);
     }
     Candidate::Nothing

@@ -15,12 +15,12 @@ use Rattle.names.specs.Digits.{decimal, digits, Written}
 use Rattle.image.specs.Ty.{NONE, Ty}
 use Rattle.image.specs.declared.Table.{Table}
 use Rattle.image.specs.declared.Table.the-variants.{Names, Types, Shapes, Properties}
-use Rattle.image.specs.Image.{count, cell, word, name-at, type-at, hook-type, Property, property-at, properties-from, shape-at}
+use Rattle.image.specs.Image.{count, cell, word, name-at, Property, property-at, properties-from, shape-at}
 use Rattle.image.specs.Laid.{In-table}
 use Rattle.image.specs.Program.{tabulate, tabulate-from}
 use Rattle.unifier_definition.specs.Cases.{shape-of}
-use Rattle.unifier_definition.specs.Property.{star-bytes, PropertyNameKind, string, number, computed, Registry, Rule, exact, star, nothing, found, or-else, entry, by-entry, by-hook-type, hook-rule, on-registered, on-shape, resolve-property-type}
-use Rattle.unifier_properties.specs.Lookup.{registry-of, key-name, entry-number, found-in, lookup-shape, hook-found, Looked-up, Types-inside, Rows-inside, Key-inside, Lookup-asked, Gives-shape}
+use Rattle.unifier_definition.specs.Property.{star-bytes, PropertyNameKind, string, number, computed, Registry, Rule, exact, star, entry, resolve-property-type}
+use Rattle.unifier_properties.specs.Lookup.{registry-of, key-name, entry-number, lookup-shape, answer, number-by-entry, or-later, hook-number, registered-number, shape-number, lookup-of, Rows-inside, Key-inside, Lookup-asked, Gives-shape}
 use Rattle.unifier_nodes.specs.Walks.{Reads-node}
 use Rattle.unifier_nodes.specs.declared.node.Node.{Node}
 use Rattle.unifier_nodes.specs.declared.node.Node.the-variants.{Var, Primitive, Poly, ObjectMethod, Object, Function, Phi}
@@ -94,85 +94,53 @@ module _ (img bytes text : List ℕ) (p e : ℕ) where
       let q : e - p ≡ 0 = omega arith in
       rw q
 
--- an entry is one of the rows before e, or there is none
-data From-rows (img bytes : List ℕ) (e : ℕ) : Option Property → Type 0 where
-  from-none : From-rows img bytes e none
-  from-row : (p : ℕ) → p < e → From-rows img bytes e (some (property-at img bytes p))
+-- what `find_entry` says of an entry's type number
+module _ (rule : Rule) (o : Option Property) {r : Entry} (q : r ≡ entry-number o) where
+  pub entry-is : {t : ℕ} → r ≡ Is t → number-by-entry rule o ≡ answer rule t
+  unfolding number-by-entry entry-number
+  entry-is {t} p = go o (sym p ∙ q)
+    where
+      go : (o : Option Property) → Is t ≡ entry-number o → number-by-entry rule o ≡ answer rule t
+      go none e = absurd (let z : _≡_ {A = ℕ} 0 1 = cc in omega arith)
+      go (some m) e = let z : m .number ≡ t = cc in rw z
 
-entry-from : (img bytes text : List ℕ) (e p n : ℕ) → p + n ≤ e → From-rows img bytes e (entry (properties-from img bytes p n) text)
-unfolding entry properties-from
-entry-from img bytes text e p zero l = from-none
-entry-from img bytes text e p (suc n) l = go (same (property-at img bytes p .name) text) refl (entry-from img bytes text e (suc p) n (omega arith))
-  where
-    go : (b : Bool) → same (property-at img bytes p .name) text ≡ b → From-rows img bytes e (entry (properties-from img bytes (suc p) n) text)
-        → From-rows img bytes e (entry (properties-from img bytes p (suc n)) text)
-    go true q h = rw (q, entry) (from-row p (omega arith))
-    go false q h = rw (q, entry) h
-
-entry-row : {img bytes : List ℕ} {o : Option Property} (rule : Rule) {t : ℕ} → Types-inside img → From-rows img bytes (count Properties img) o → Is t ≡ entry-number o
-    → (found rule (type-at img t) ≡ by-entry rule o) × (t < count Types img)
-unfolding by-entry entry-number property-at
-entry-row rule h from-none q = absurd (let z : _≡_ {A = ℕ} 0 1 = cc in omega arith)
-entry-row {img} rule {t} h (from-row p l) q = let z : t ≡ cell Properties img p 1 = cc in (rw z, omega (arith, h .property p l))
-
-no-entry : (rule : Rule) (o : Option Property) → Missing ≡ entry-number o → by-entry rule o ≡ nothing
-unfolding by-entry entry-number
-no-entry rule none q = refl
-no-entry rule (some p) q = absurd (let z : _≡_ {A = ℕ} 0 1 = cc in omega arith)
-
--- nothing is found
-pub nothing-found : (img : List ℕ) → Looked-up img Nothing nothing
-unfolding found-in
-nothing-found img = record { finds = refl; inside = tt }
-
--- what `find_entry` says of the entry of a name
-module _ (img bytes : List ℕ) (first n : ℕ) (text : List ℕ) {r : Entry} (q : r ≡ entry-number (entry (properties-from img bytes first n) text)) where
-  entry-is : (rule : Rule) {t : ℕ} → Rows-inside img bytes first n → r ≡ Is t
-      → (found rule (type-at img t) ≡ by-entry rule (entry (properties-from img bytes first n) text)) × (t < count Types img)
-  entry-is rule h p = entry-row rule (h .registry .types) (entry-from img bytes text (count Properties img) first n (h .within)) (sym p ∙ q)
-
-  pub entry-missing : (rule : Rule) → r ≡ Missing → by-entry rule (entry (properties-from img bytes first n) text) ≡ nothing
-  entry-missing rule p = no-entry rule (entry (properties-from img bytes first n) text) (sym p ∙ q)
-
--- the "*" entry
-pub star-found : (img bytes : List ℕ) (first n : ℕ) {r : Entry} {t : ℕ} → Rows-inside img bytes first n → r ≡ entry-number (entry (properties-from img bytes first n) star-bytes) → r ≡ Is t
-    → Looked-up img (Star t) (by-entry star (entry (properties-from img bytes first n) star-bytes))
-unfolding found-in
-star-found img bytes first n h q p = let g = entry-is img bytes first n star-bytes q star h p in record { finds = g .0; inside = g .1 }
+  pub entry-missing : r ≡ Missing → number-by-entry rule o ≡ Nothing
+  unfolding number-by-entry entry-number
+  entry-missing p = go o (sym p ∙ q)
+    where
+      go : (o : Option Property) → Missing ≡ entry-number o → number-by-entry rule o ≡ Nothing
+      go none e = refl
+      go (some m) e = absurd (let z : _≡_ {A = ℕ} 0 1 = cc in omega arith)
 
 -- a string name on a registered shape: the exact name, "*", the hook rule
-module _ (img bytes : List ℕ) (first n : ℕ) (text : List ℕ) {r : Entry} (q : r ≡ entry-number (entry (properties-from img bytes first n) text)) where
-  pub name-exact : {t : ℕ} → Rows-inside img bytes first n → r ≡ Is t
-      → Looked-up img (Exact t) (on-registered (registry-of img bytes) (properties-from img bytes first n) (string text))
-  unfolding found-in on-registered or-else
-  name-exact h p = let g = entry-is img bytes first n text q exact h p in record { finds = rw (← g .0); inside = g .1 }
+module _ (img : List ℕ) (ps : List Property) (text : List ℕ) {r : Entry} (q : r ≡ entry-number (entry ps text)) where
+  pub name-exact : {t : ℕ} → r ≡ Is t → Exact t ≡ registered-number img ps (string text)
+  unfolding registered-number or-later answer
+  name-exact p = rw (entry-is exact (entry ps text) q p)
 
-  module _ {r′ : Entry} (p : r ≡ Missing) (q′ : r′ ≡ entry-number (entry (properties-from img bytes first n) star-bytes)) where
-    pub name-star : {t : ℕ} → Rows-inside img bytes first n → r′ ≡ Is t
-        → Looked-up img (Star t) (on-registered (registry-of img bytes) (properties-from img bytes first n) (string text))
-    unfolding found-in on-registered or-else
-    name-star h p′ =
-        let g = entry-is img bytes first n star-bytes q′ star h p′ in
-        record { finds = rw (entry-missing img bytes first n text q exact p, ← g .0); inside = g .1 }
+  module _ {r′ : Entry} (p : r ≡ Missing) (q′ : r′ ≡ entry-number (entry ps star-bytes)) where
+    pub name-star : {t : ℕ} → r′ ≡ Is t → Star t ≡ registered-number img ps (string text)
+    unfolding registered-number or-later answer
+    name-star p′ = rw (entry-missing exact (entry ps text) q p, or-later, entry-is star (entry ps star-bytes) q′ p′)
 
-    pub name-hook : r′ ≡ Missing → on-registered (registry-of img bytes) (properties-from img bytes first n) (string text) ≡ hook-found img text
-    unfolding on-registered or-else hook-rule hook-found registry-of
-    name-hook p′ = rw (entry-missing img bytes first n text q exact p, entry-missing img bytes first n star-bytes q′ star p′)
+    pub name-hook : r′ ≡ Missing → hook-number img (string text) ≡ registered-number img ps (string text)
+    unfolding registered-number or-later
+    name-hook p′ = rw (entry-missing exact (entry ps text) q p, entry-missing star (entry ps star-bytes) q′ p′)
 
 -- the hook rule by a name's bytes
 module _ (img text : List ℕ) where
-  pub no-hook-name : is-hook-name text ≡ false → hook-found img text ≡ nothing
-  unfolding hook-found
-  no-hook-name e = rw (hook-found, e)
+  pub no-hook-name : is-hook-name text ≡ false → Nothing ≡ hook-number img (string text)
+  unfolding hook-number
+  no-hook-name e = rw (hook-number, e)
 
   module _ (e : is-hook-name text ≡ true) where
-    pub no-hook-type : word img 2 ≡ NONE → hook-found img text ≡ nothing
-    unfolding hook-found hook-type by-hook-type
-    no-hook-type h = rw (hook-found, e, hook-type, eq-eqb (word img 2) NONE h)
+    pub no-hook-type : word img 2 ≡ NONE → Nothing ≡ hook-number img (string text)
+    unfolding hook-number
+    no-hook-type h = rw (hook-number, e, eq-eqb (word img 2) NONE h)
 
-    pub hook-type-found : Types-inside img → (word img 2 ≡ NONE → ⊥) → Looked-up img (Hook (word img 2)) (hook-found img text)
-    unfolding found-in hook-found hook-type by-hook-type
-    hook-type-found t h = record { finds = rw (hook-found, e, hook-type, ne-eqb (word img 2) NONE h); inside = t .hook h }
+    pub hook-type-found : (word img 2 ≡ NONE → ⊥) → Hook (word img 2) ≡ hook-number img (string text)
+    unfolding hook-number
+    hook-type-found h = rw (hook-number, e, ne-eqb (word img 2) NONE h)
 
 -- digits are no hook name
 first-append : (xs : List ℕ) (d : ℕ) → getD xs 0 0 ≤ 57 → d ≤ 57 → getD (xs ++ (d ∷ [])) 0 0 ≤ 57
@@ -219,9 +187,9 @@ module _ (img bytes : List ℕ) {key : Key} where
   unfolding key-name
   names-computed e = rw e
 
-  pub no-hook-position : {k : ℕ} → key ≡ Position k → hook-rule (registry-of img bytes) (key-name img bytes key) ≡ nothing
-  unfolding hook-rule key-name
-  no-hook-position {k} e = rw (e, hook-rule, digits-no-hook k)
+  pub no-hook-position : {k : ℕ} → key ≡ Position k → Nothing ≡ hook-number img (key-name img bytes key)
+  unfolding hook-number key-name
+  no-hook-position {k} e = rw (e, hook-number, digits-no-hook k)
 
 -- what a table lists, by the row's number
 tabulated : {A : Type 0} (f : ℕ → A) (d : A) (k n j i : ℕ) → i ≡ k + j → j < n → getD (tabulate-from f k n) j d ≡ f i
@@ -241,11 +209,11 @@ tabulated-past f d k zero j h = refl
 tabulated-past f d k (suc n) zero h = absurd (omega arith)
 tabulated-past f d k (suc n) (suc j) h = tabulated-past f d (suc k) n j (omega arith)
 
-shape-past : (img bytes : List ℕ) (s : ℕ) → count Shapes img ≤ s → getD (registry-of img bytes .shapes) s none ≡ none
+pub shape-past : (img bytes : List ℕ) (s : ℕ) → count Shapes img ≤ s → getD (registry-of img bytes .shapes) s none ≡ none
 unfolding registry-of tabulate
 shape-past img bytes s h = tabulated-past (shape-at img bytes) none 0 (count Shapes img) s h
 
-shape-row : (img bytes : List ℕ) (s : ℕ) → s < count Shapes img → getD (registry-of img bytes .shapes) s none ≡ shape-at img bytes s
+pub shape-row : (img bytes : List ℕ) (s : ℕ) → s < count Shapes img → getD (registry-of img bytes .shapes) s none ≡ shape-at img bytes s
 unfolding registry-of
 shape-row img bytes s h = tabulate-at Shapes img (shape-at img bytes) none s h
 
@@ -257,22 +225,22 @@ module _ {img bytes : List ℕ} {shape : ℕ} {key : Key} (h : Lookup-asked img 
   pub shape-rows : {first n : ℕ} → first ≡ cell Shapes img shape 1 → n ≡ cell Shapes img shape 2 → Rows-inside img bytes first n
   shape-rows p q = record { registry = h .registry; within = rw (p, q) (h .registry .shape shape m) }
 
--- a lookup by the object's shape: none, one past the table, one that is absent, one that is registered
+-- the answer by the object's shape: none, one past the table, one that is absent, one that is registered
 module _ (img bytes : List ℕ) (shape : ℕ) (name : PropertyNameKind) where
-  pub lookup-unshaped : shape ≡ NONE → lookup-shape (registry-of img bytes) shape name ≡ hook-rule (registry-of img bytes) name
-  unfolding lookup-shape
-  lookup-unshaped e = rw (lookup-shape, eq-eqb shape NONE e)
+  pub lookup-unshaped : shape ≡ NONE → hook-number img name ≡ lookup-of img bytes shape name
+  unfolding lookup-of
+  lookup-unshaped e = rw (lookup-of, eq-eqb shape NONE e)
 
-  pub lookup-past : {n : ℕ} → n ≡ count Shapes img → (shape ≡ NONE → ⊥) → n ≤ shape → lookup-shape (registry-of img bytes) shape name ≡ nothing
-  unfolding lookup-shape on-shape
-  lookup-past e m h = rw (lookup-shape, ne-eqb shape NONE m, shape-past img bytes shape (omega arith))
+  pub lookup-past : {n : ℕ} → n ≡ count Shapes img → (shape ≡ NONE → ⊥) → n ≤ shape → Nothing ≡ lookup-of img bytes shape name
+  unfolding lookup-of shape-number
+  lookup-past e m h = rw (lookup-of, ne-eqb shape NONE m, shape-past img bytes shape (omega arith))
 
   module _ {present : ℕ} (m : shape ≡ NONE → ⊥) (h : shape < count Shapes img) (e : present ≡ cell Shapes img shape 0) where
-    pub lookup-absent : (present ≡ 1 → ⊥) → lookup-shape (registry-of img bytes) shape name ≡ nothing
-    unfolding lookup-shape on-shape shape-at
-    lookup-absent o = rw (lookup-shape, ne-eqb shape NONE m, shape-row img bytes shape h, shape-at, ← e, ne-eqb present 1 o)
+    pub lookup-absent : (present ≡ 1 → ⊥) → Nothing ≡ lookup-of img bytes shape name
+    unfolding lookup-of shape-number shape-at
+    lookup-absent o = rw (lookup-of, ne-eqb shape NONE m, shape-row img bytes shape h, shape-at, ← e, ne-eqb present 1 o)
 
     pub lookup-registered : {first n : ℕ} → present ≡ 1 → first ≡ cell Shapes img shape 1 → n ≡ cell Shapes img shape 2
-        → lookup-shape (registry-of img bytes) shape name ≡ on-registered (registry-of img bytes) (properties-from img bytes first n) name
-    unfolding lookup-shape on-shape shape-at
-    lookup-registered o p q = rw (lookup-shape, ne-eqb shape NONE m, shape-row img bytes shape h, shape-at, ← e, eq-eqb present 1 o, p, q)
+        → registered-number img (properties-from img bytes first n) name ≡ lookup-of img bytes shape name
+    unfolding lookup-of shape-number shape-at
+    lookup-registered o p q = rw (lookup-of, ne-eqb shape NONE m, shape-row img bytes shape h, shape-at, ← e, eq-eqb present 1 o, p, q)

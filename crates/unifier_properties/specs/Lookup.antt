@@ -15,7 +15,7 @@ use Rattle.image.specs.Program.{tabulate}
 use Rattle.image.specs.declared.Table.the-variants.{Names, Types, Shapes, Properties}
 use Rattle.unifier_definition.specs.Cases.{shape-of}
 use Rattle.unifier_nodes.specs.Work.{Rep}
-use Rattle.unifier_definition.specs.Property.{PropertyNameKind, string, number, computed, Registry, exact, star, hook, Found, nothing, found, by-hook-type, hook-rule, on-shape}
+use Rattle.unifier_definition.specs.Property.{star-bytes, PropertyNameKind, string, number, computed, Registry, Rule, exact, star, hook, Found, nothing, found, entry, hook-rule, on-shape}
 use Rattle.unifier_properties.specs.declared.Key.{Key}
 use Rattle.unifier_properties.specs.declared.Key.the-variants.{String, Position, Number, Computed}
 use Rattle.unifier_properties.specs.declared.Entry.{Entry}
@@ -54,9 +54,53 @@ lookup-shape reg shape name =
       | false ↦ on-shape reg (getD (reg .shapes) shape none) name
     ]
 
--- "for a hook name, the hook type", by the name's bytes
-unfoldable pub hook-found : (img text : List ℕ) → Found
-hook-found img text = elim (is-hook-name text) [ true ↦ by-hook-type (hook-type img) | false ↦ nothing ]
+-- the answer of a rule that gives a type of this number
+unfoldable pub answer : Rule → ℕ → Lookup
+answer exact n = Exact n
+answer star n = Star n
+answer hook n = Hook n
+
+-- `by-entry` by type numbers
+unfoldable pub number-by-entry : Rule → Option Property → Lookup
+number-by-entry rule none = Nothing
+number-by-entry rule (some p) = answer rule (p .number)
+
+-- `or-else` by type numbers
+unfoldable pub or-later : Lookup → Lookup → Lookup
+or-later (Exact n) later = Exact n
+or-later (Star n) later = Star n
+or-later (Hook n) later = Hook n
+or-later Nothing later = later
+
+-- `hook-rule` by type numbers
+unfoldable pub hook-number : List ℕ → PropertyNameKind → Lookup
+hook-number img (string name) =
+    elim (is-hook-name name) [
+      | true ↦ elim (eqb (word img 2) NONE) [ true ↦ Nothing | false ↦ Hook (word img 2) ]
+      | false ↦ Nothing
+    ]
+hook-number img number = Nothing
+hook-number img computed = Nothing
+
+-- `on-registered` by type numbers
+unfoldable pub registered-number : List ℕ → List Property → PropertyNameKind → Lookup
+registered-number img ps (string name) =
+    or-later (number-by-entry exact (entry ps name)) (or-later (number-by-entry star (entry ps star-bytes)) (hook-number img (string name)))
+registered-number img ps number = number-by-entry star (entry ps star-bytes)
+registered-number img ps computed = number-by-entry star (entry ps star-bytes)
+
+-- `on-shape` by type numbers
+unfoldable pub shape-number : List ℕ → Option (List Property) → PropertyNameKind → Lookup
+shape-number img none name = Nothing
+shape-number img (some ps) name = registered-number img ps name
+
+-- `lookup-shape` by type numbers: the answer of `resolve_property_type`
+unfoldable pub lookup-of : (img bytes : List ℕ) → ℕ → PropertyNameKind → Lookup
+lookup-of img bytes shape name =
+    elim (eqb shape NONE) [
+      | true ↦ hook-number img name
+      | false ↦ shape-number img (getD (registry-of img bytes .shapes) shape none) name
+    ]
 
 -- a lookup's type number is in its table
 abbrev pub Number-inside : List ℕ → Lookup → Type 0
@@ -65,7 +109,7 @@ Number-inside img (Star n) = n < count Types img
 Number-inside img (Hook n) = n < count Types img
 Number-inside img Nothing = Unit
 
--- what a lookup answers: what the definition finds, as a type number in its table
+-- an answer stands for what the definition finds, by a type number in its table
 pub record Looked-up (img : List ℕ) (r : Lookup) (want : Found) : Type 0 where
   pub finds : found-in img r ≡ want
   pub inside : Number-inside img r
@@ -109,8 +153,3 @@ lookup-number Nothing = Missing
 -- the contract of `shape_of`
 pub record Gives-shape (w : List ℕ) (lo n : ℕ) (r : ℕ) : Type 0 where
   pub is : (top : ℕ) (t : Ty) → top ≤ length w → Rep w lo top n t → r ≡ shape-of t
-
--- To unfold this one is to unfold every definition of this file: the rows compute by it.
-unfoldable pub lookup-compute : Unit {0}
-unfolding registry-of key-name entry-number found-in lookup-shape hook-found lookup-number
-lookup-compute = tt

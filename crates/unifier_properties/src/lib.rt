@@ -1,14 +1,16 @@
 // resolve_property_type
 ghost use mathlib.Core.Path.{_≡_};
 ghost use Rattle.image.specs.Image.{properties-from};
-ghost use Rattle.unifier_definition.specs.Property.{entry, by-entry, star, star-bytes, string, hook-rule, on-registered};
-ghost use Rattle.unifier_properties.specs.Lookup.{registry-of, key-name, entry-number, lookup-shape, hook-found, Looked-up, Types-inside, Registry-inside, Rows-inside, Key-inside, Lookup-asked, Gives-shape};
+ghost use Rattle.unifier_definition.specs.Property.{entry, star, star-bytes, string};
+ghost use Rattle.unifier_properties.specs.Lookup.{key-name, entry-number, number-by-entry, hook-number, registered-number, lookup-of, Types-inside, Registry-inside, Rows-inside, Key-inside, Lookup-asked, Gives-shape};
 ghost use Rattle.unifier_nodes.specs.Walks.{Stands};
 use image::NONE;
 use image::Table;
 use image::cell;
 use image::count;
+use image::header;
 use image::name_bytes;
+use image::shapes;
 use names::digits::digits_of;
 use names::is_hook_name;
 use names::same_bytes;
@@ -70,12 +72,12 @@ fn find_entry(img: &[u32], bytes: &[u8], first: u32, n: u32, text: &[u8]) -> Ent
 // The hook type, if this is a hook name.
 fn hook_by_name(img: &[u32], text: &[u8]) -> Lookup
     requires { ⌜ Types-inside (now img) ⌝ }
-    ensures { λ r. ⌜ Looked-up (now (img .entry)) r (hook-found (now (img .entry)) (now (text .entry))) ⌝ }
+    ensures { λ r. ⌜ r ≡ hook-number (now (img .entry)) (string (now (text .entry))) ⌝ }
 {
     if !is_hook_name(text) {
         return Lookup::Nothing;
     }
-    let hook = img[2];
+    let hook = img[header::HOOK_TYPE];
     if hook == NONE {
         return Lookup::Nothing;
     }
@@ -85,7 +87,7 @@ fn hook_by_name(img: &[u32], text: &[u8]) -> Lookup
 // The hook type, for a hook name; digits are none.
 fn hook_rule(img: &[u32], bytes: &[u8], key: Key) -> Lookup
     requires { ⌜ Registry-inside (now img) (now bytes) × Key-inside (now img) key ⌝ }
-    ensures { λ r. ⌜ Looked-up (now (img .entry)) r (hook-rule (registry-of (now (img .entry)) (now (bytes .entry))) (key-name (now (img .entry)) (now (bytes .entry)) key)) ⌝ }
+    ensures { λ r. ⌜ r ≡ hook-number (now (img .entry)) (key-name (now (img .entry)) (now (bytes .entry)) key) ⌝ }
 {
     match key {
         Key::String(name) => hook_by_name(img, name_bytes(img, bytes, name)),
@@ -98,7 +100,7 @@ fn hook_rule(img: &[u32], bytes: &[u8], key: Key) -> Lookup
 // The "*" entry among n property rows from first on: all that a number or a computed key finds.
 fn star_entry(img: &[u32], bytes: &[u8], first: u32, n: u32) -> Lookup
     requires { ⌜ Rows-inside (now img) (now bytes) first n ⌝ }
-    ensures { λ r. ⌜ Looked-up (now (img .entry)) r (by-entry star (entry (properties-from (now (img .entry)) (now (bytes .entry)) first n) star-bytes)) ⌝ }
+    ensures { λ r. ⌜ r ≡ number-by-entry star (entry (properties-from (now (img .entry)) (now (bytes .entry)) first n) star-bytes) ⌝ }
 {
     match find_entry(img, bytes, first, n, b"*") {
         Entry::Is(t) => Lookup::Star(t),
@@ -109,7 +111,7 @@ fn star_entry(img: &[u32], bytes: &[u8], first: u32, n: u32) -> Lookup
 // The exact name, then "*", then, for a hook name, the hook type.
 fn by_name(img: &[u32], bytes: &[u8], first: u32, n: u32, text: &[u8]) -> Lookup
     requires { ⌜ Rows-inside (now img) (now bytes) first n ⌝ }
-    ensures { λ r. ⌜ Looked-up (now (img .entry)) r (on-registered (registry-of (now (img .entry)) (now (bytes .entry))) (properties-from (now (img .entry)) (now (bytes .entry)) first n) (string (now (text .entry)))) ⌝ }
+    ensures { λ r. ⌜ r ≡ registered-number (now (img .entry)) (properties-from (now (img .entry)) (now (bytes .entry)) first n) (string (now (text .entry))) ⌝ }
 {
     let star: &[u8] = b"*";
     if let Entry::Is(t) = find_entry(img, bytes, first, n, text) {
@@ -124,7 +126,7 @@ fn by_name(img: &[u32], bytes: &[u8], first: u32, n: u32, text: &[u8]) -> Lookup
 // What a registered shape gives, whose properties are the n rows from first on.
 fn on_registered(img: &[u32], bytes: &[u8], first: u32, n: u32, key: Key) -> Lookup
     requires { ⌜ Rows-inside (now img) (now bytes) first n × Key-inside (now img) key ⌝ }
-    ensures { λ r. ⌜ Looked-up (now (img .entry)) r (on-registered (registry-of (now (img .entry)) (now (bytes .entry))) (properties-from (now (img .entry)) (now (bytes .entry)) first n) (key-name (now (img .entry)) (now (bytes .entry)) key)) ⌝ }
+    ensures { λ r. ⌜ r ≡ registered-number (now (img .entry)) (properties-from (now (img .entry)) (now (bytes .entry)) first n) (key-name (now (img .entry)) (now (bytes .entry)) key) ⌝ }
 {
     match key {
         Key::String(name) => by_name(img, bytes, first, n, name_bytes(img, bytes, name)),
@@ -142,7 +144,7 @@ fn on_registered(img: &[u32], bytes: &[u8], first: u32, n: u32, key: Key) -> Loo
 // The type of a property, on an object of this shape, NONE for no shape or another kind of type.
 pub fn resolve_property_type(img: &[u32], bytes: &[u8], shape: u32, key: Key) -> Lookup
     requires { ⌜ Lookup-asked (now img) (now bytes) key ⌝ }
-    ensures { λ r. ⌜ Looked-up (now (img .entry)) r (lookup-shape (registry-of (now (img .entry)) (now (bytes .entry))) shape (key-name (now (img .entry)) (now (bytes .entry)) key)) ⌝ }
+    ensures { λ r. ⌜ r ≡ lookup-of (now (img .entry)) (now (bytes .entry)) shape (key-name (now (img .entry)) (now (bytes .entry)) key) ⌝ }
 {
     if shape == NONE {
         return hook_rule(img, bytes, key);
@@ -150,7 +152,7 @@ pub fn resolve_property_type(img: &[u32], bytes: &[u8], shape: u32, key: Key) ->
     if shape >= count(img, Table::Shapes) {
         return Lookup::Nothing;
     }
-    if cell(img, Table::Shapes, shape, 0) != 1 {
+    if cell(img, Table::Shapes, shape, 0) != shapes::PRESENT {
         return Lookup::Nothing;
     }
     let first = cell(img, Table::Shapes, shape, 1);

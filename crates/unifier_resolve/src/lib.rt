@@ -7,6 +7,9 @@ ghost use Rattle.unifier_nodes.specs.Work.{Room};
 ghost use Rattle.unifier_nodes.specs.Walks.{Known, Known-all, Copied, Room-for, Made-function, Made-phi};
 ghost use Rattle.unifier_nodes.specs.Promises.{Gives, Gives-all, Rewrites, Rewrites-all, Resolves-got, Readable, Readable-all, Checks, Checks-all};
 use image::TypeId;
+use image::refusals;
+use image::type_kinds;
+use unifier_nodes::node::NODE_WORDS;
 use unifier_nodes::node::Node;
 use unifier_nodes::node::node_at;
 use unifier_nodes::node::put_node;
@@ -34,7 +37,7 @@ fn spent(top: u32) -> Got
         node: 0,
         left: 0,
         top,
-        refused: 13,
+        refused: refusals::OUT_OF_STEPS,
     }
 }
 
@@ -68,7 +71,7 @@ fn made_function(w: &mut [u32], g: Got, stack: u32, kind: u32, shape: u32) -> Go
     Got {
         node: top,
         left,
-        top: top + 3,
+        top: top + NODE_WORDS,
         refused: 0,
     }
 }
@@ -86,11 +89,11 @@ fn made_phi(w: &mut [u32], g: Got, stack: u32) -> Got
     let top = g.top;
     copy(w, top, stack, count);
     let left = g.left;
-    put_node(w, top + count, 7, top, count);
+    put_node(w, top + count, type_kinds::PHI, top, count);
     Got {
         node: top + count,
         left,
-        top: top + count + 3,
+        top: top + count + NODE_WORDS,
         refused: 0,
     }
 }

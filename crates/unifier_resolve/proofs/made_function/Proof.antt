@@ -1,6 +1,7 @@
 use borrow.Author.Needs.{needs}
 use native.Mathlib.Omega.{arith}
 use mathlib.Core.Path.{refl}
+use Rattle.unifier_nodes.proofs.Words.{wrote}
 use Rattle.unifier_resolve.proofs.made_function.Statement.{statement}
 use Rattle.unifier_resolve.proofs.made_function.Tie as tie
 
@@ -21,7 +22,8 @@ top-fits c =
 returns-2 : tie.Need-returns-2
 returns-2 c =
     let b = c .before .before .before .before in
-    record { kept = λ h. absurd (h (b .if1 .left)); wrote = λ e. c .before .before .put-node .ensures; made = λ e. refl }
+    let r = b .before .before .pre in
+    record { kept = λ h. absurd (h (b .if1 .left)); wrote = λ e. wrote (omega (arith, r .heap (b .if1 .left), r .hand (b .if1 .left))) (c .before .before .put-node .ensures); made = λ e. refl }
 
 pub made-function-spec : {M : Type 1} → statement M
 made-function-spec = tie.close (tie.spec returns put-node-requires top-fits (λ c. search needs) returns-2)

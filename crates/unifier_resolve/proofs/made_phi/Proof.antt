@@ -2,6 +2,7 @@ use borrow.Author.Needs.{needs}
 use native.Mathlib.Omega.{arith}
 use mathlib.Core.Path.{refl, _∙_}
 use denote.Ref.{now}
+use Rattle.unifier_nodes.proofs.Words.{wrote, node-length}
 use Rattle.unifier_resolve.proofs.made_phi.Statement.{statement}
 use Rattle.unifier_resolve.proofs.made_phi.Tie as tie
 
@@ -24,11 +25,13 @@ put-node-requires c κs = omega (arith, c .before .before .before .before .befor
 returns-2 : tie.Need-returns-2
 returns-2 c =
     let b = c .before .before .before .before .before .before in
+    let r = b .before .before .before .before .pre in
+    let z = b .before .before .if1 .left in
     record {
       kept = λ h. absurd (h (b .before .before .if1 .left));
       between = b .copy .last .0;
       copied = λ e. b .copy .ensures;
-      wrote = λ e. c .before .before .put-node .ensures;
+      wrote = λ e. wrote (omega (arith, r .heap z, r .hand z, b .copy .ensures .len)) (c .before .before .put-node .ensures);
       made = λ e. refl;
     }
 
@@ -43,5 +46,5 @@ made-phi-spec =
     (λ c. omega (arith, c .before .before .before .before .before .before .before .before .before .before .pre .heap (c .before .before .before .before .before .before .before .before .if1 .left), c .before .before .before .before .before .before .before .before .before .before .pre .hand (c .before .before .before .before .before .before .before .before .if1 .left), c .before .before .before .before .before .before .before .before .before .before .pre .small))
     (λ c. omega (arith, c .before .before .before .before .before .before .before .before .before .before .pre .heap (c .before .before .before .before .before .before .before .before .if1 .left), c .before .before .before .before .before .before .before .before .before .before .pre .hand (c .before .before .before .before .before .before .before .before .if1 .left), c .before .before .before .before .before .before .before .before .before .before .pre .small))
     (λ c. omega (arith, c .before .before .before .before .before .before .before .before .before .before .pre .heap (c .before .before .before .before .before .before .before .before .if1 .left), c .before .before .before .before .before .before .before .before .before .before .pre .hand (c .before .before .before .before .before .before .before .before .if1 .left), c .before .before .before .before .before .before .before .before .before .before .pre .small))
-    (λ c. c .before .before .put-node .ensures .len ∙ c .before .before .before .before .before .before .copy .ensures .len)
+    (λ c. node-length _ _ _ _ _ (c .before .before .put-node .ensures) ∙ c .before .before .before .before .before .before .copy .ensures .len)
     returns-2)

@@ -1,5 +1,6 @@
 use mathlib.Core.Path.{refl}
 use borrow.Author.Needs.{needs}
+use Rattle.unifier_properties.proofs.Answers.{looked-up}
 use Rattle.unifier_nodes.proofs.Getting.{known-stands, room-charged}
 use Rattle.unifier.proofs.Unifying.{known-right}
 use Rattle.unifier.proofs.Accesses.{found-inside, found-known, found-nothing, found-type, asked-fits, asked-placed}
@@ -9,22 +10,23 @@ use Rattle.unifier.proofs.access.unify_found.Tie as tie
 returns : tie.Need-returns
 returns c =
     let p = c .before .before .before .before .before .before .before .before .before .pre in
-    found-nothing _ _ (c .before .before .before .before .shape-of .ensures) (c .before .before .before .resolve-property-type .ensures) (c .before .before .number-of .ensures) (asked-fits (p .0)) (c .enum-told .given .1) (p .1)
+    found-nothing _ _ (c .before .before .before .before .shape-of .ensures) (looked-up (p .0 .registry) _ _ (c .before .before .before .resolve-property-type .ensures)) (c .before .before .number-of .ensures) (asked-fits (p .0)) (c .enum-told .given .1) (p .1)
 
 node-of-type-requires : tie.Need-node-of-type-requires
 node-of-type-requires c κs =
-    asked-placed (c .before .before .before .before .before .before .before .before .before .before .pre .0) (found-inside (c .before .before .before .before .resolve-property-type .ensures) (c .before .before .before .number-of .ensures) (c .before .t .given .1))
+    let p = c .before .before .before .before .before .before .before .before .before .before .pre .0 in
+    asked-placed p (found-inside (looked-up (p .registry) _ _ (c .before .before .before .before .resolve-property-type .ensures)) (c .before .before .before .number-of .ensures) (c .before .t .given .1))
 
 unify-requires : tie.Need-unify-requires
 unify-requires c κs =
     let p = c .before .before .before .before .before .before .before .before .before .before .before .before .pre .0 in
-    let i = found-inside (c .before .before .before .before .before .before .resolve-property-type .ensures) (c .before .before .before .before .before .number-of .ensures) (c .before .before .before .t .given .1) in
+    let i = found-inside (looked-up (p .registry) _ _ (c .before .before .before .before .before .before .resolve-property-type .ensures)) (c .before .before .before .before .before .number-of .ensures) (c .before .before .before .t .given .1) in
     (room-charged (p .room), found-known (p .types) i (c .before .node-of-type .ensures) (p .known))
 
 returns-2 : tie.Need-returns-2
 returns-2 c =
     let p = c .before .before .before .before .before .before .before .before .before .before .before .before .before .before .before .pre .0 in
-    found-type _ _ (c .before .before .before .before .before .before .before .before .before .before .shape-of .ensures) (c .before .before .before .before .before .before .before .before .before .resolve-property-type .ensures) (c .before .before .before .before .before .before .before .before .number-of .ensures) (asked-fits p) (c .before .before .before .before .before .before .t .given .1) (p .types) (c .before .before .before .before .node-of-type .ensures) (c .before .before .unify .ensures .binds)
+    found-type _ _ (c .before .before .before .before .before .before .before .before .before .before .shape-of .ensures) (looked-up (p .registry) _ _ (c .before .before .before .before .before .before .before .before .before .resolve-property-type .ensures)) (c .before .before .before .before .before .before .before .before .number-of .ensures) (asked-fits p) (c .before .before .before .before .before .before .t .given .1) (p .types) (c .before .before .before .before .node-of-type .ensures) (c .before .before .unify .ensures .binds)
 
 pub unify-found-spec : {M : Type 1} → statement M
 unify-found-spec =

@@ -1,9 +1,14 @@
 use native.Mathlib.Omega.{arith}
 use borrow.Author.Needs.{needs}
 use lib.ListN.{length-set}
-use Rattle.unifier_nodes.proofs.Words.{wrote}
+use mathlib.Core.Path.{refl}
+use Rattle.unifier_nodes.specs.Walks.{with-node}
 use Rattle.unifier_nodes.proofs.node.put_node.Statement.{statement}
 use Rattle.unifier_nodes.proofs.node.put_node.Tie as tie
+
+returns : tie.Need-returns
+unfolding with-node
+returns c = refl
 
 pub put-node-spec : {M : Type 1} → statement M
 put-node-spec =
@@ -18,4 +23,4 @@ put-node-spec =
     (λ c. search needs)
     (λ c. simp length-set (omega arith))
     (λ c. simp length-set)
-    (λ c. wrote _ _ _ _ _ (c .pre)))
+    returns)
