@@ -14,7 +14,8 @@ use Rattle.image.proofs.CheckPassed.{check-passed, work-enough}
 use Rattle.unifier_nodes.specs.Work.{at}
 use Rattle.run_definition.specs.Infer.{infer-types, refusal, output-of, after-check, infer}
 use Rattle.run_tables.specs.Lent.{put, answer-of, cleared, work-after}
-use Rattle.infer.specs.Entry.{Run-asked, Runs, Infers}
+use Rattle.infer.specs.Entry.{Infers}
+use Rattle.infer.specs.Run.{Run-asked, Runs}
 use Rattle.run_tables.specs.declared.Answer.{Answer as Answered}
 use Rattle.run_definition.proofs.Demand.{run-number, tables-sound}
 use Rattle.infer.proofs.EntryLaws.{put-none}

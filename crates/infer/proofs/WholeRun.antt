@@ -29,7 +29,7 @@ use Rattle.run_walk.specs.Running.{none-logged, Ready, Ran, Generates}
 use Rattle.run_tables.specs.Lent.{put, answer-of}
 use Rattle.run_tables.specs.Standing.{Slots-stand, all-types, Resolved-run, Finish-asked, Finishes}
 use Rattle.run_apply.specs.Applying.{Applying, Applies, Resolved-to}
-use Rattle.infer.specs.Entry.{Run-asked, Runs}
+use Rattle.infer.specs.Run.{Run-asked, Runs}
 use Rattle.run_layout.specs.declared.Layout.{Layout}
 use Rattle.run_walk.specs.declared.Walk.{Walk}
 use Rattle.run_apply.specs.declared.Pass.{Pass}

@@ -4,8 +4,10 @@ ghost use Prim.Native.Nat.{_≤_};
 ghost use lib.ListN.{length};
 ghost use Rattle.run_definition.specs.Infer.{refusal as refusal-of};
 ghost use Rattle.run_tables.specs.Lent.{answer-of, cleared};
-ghost use Rattle.infer.specs.Entry.{Run-asked, Runs, Infers};
+ghost use Rattle.infer.specs.Entry.{Infers};
+ghost use Rattle.infer.specs.Run.{Run-asked, Runs};
 use image::Table;
+use image::WORK_WORDS_EACH;
 use image::count;
 use run_apply::Pass;
 pub use run_tables::Answer;
@@ -96,7 +98,7 @@ pub fn infer_types(
         return refusal(number, 0);
     }
     clear(work, count(image, Table::Slots) as usize + budget as usize);
-    let need = 8 * (image.len() + budget as usize);
+    let need = WORK_WORDS_EACH * (image.len() + budget as usize);
     let answer = run(image, names, budget, &mut work[..need], tables);
     clear(work, work.len());
     answer

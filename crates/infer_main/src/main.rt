@@ -1,4 +1,6 @@
 // Reads an image, its names and a budget from standard input, and prints what the run answers.
+use image::WORK_WORDS_EACH;
+use image::type_kinds;
 use libc::STDIN_FILENO;
 use libc::STDOUT_FILENO;
 ghost use Prim.Native.Nat.{_≤_, _<_};
@@ -7,6 +9,17 @@ ghost use lib.ListN.{length};
 
 // The table words that are lent.
 const TABLE_WORDS: usize = 4096;
+
+// The most image words, name bytes and steps, the work words for these, and one byte more than the longest input.
+const MOST_WORDS: usize = 1024;
+
+const MOST_BYTES: usize = 4096;
+
+const MOST_BUDGET: u32 = 1024;
+
+const MOST_WORK: usize = 16384;
+
+const MOST_INPUT: usize = 8205;
 
 fn say(text: &[u8]) {
     io::write_all(STDOUT_FILENO, text);
@@ -29,13 +42,13 @@ fn say_shape(text: &[u8], shape: u32) {
 // Prints a type's own words: its kind, and a where the kind has it.
 fn say_kind(kind: u32, a: u32) {
     match kind {
-        0 => say_number(b" var ", a),
-        1 => say(b" primitive"),
-        2 => say(b" poly"),
-        3 => say(b" method"),
-        4 => say_shape(b" object", a),
-        5 => say_shape(b" function", a),
-        6 => say_shape(b" constructor", a),
+        type_kinds::VAR => say_number(b" var ", a),
+        type_kinds::PRIMITIVE => say(b" primitive"),
+        type_kinds::POLY => say(b" poly"),
+        type_kinds::OBJECT_METHOD => say(b" method"),
+        type_kinds::OBJECT => say_shape(b" object", a),
+        type_kinds::FUNCTION => say_shape(b" function", a),
+        type_kinds::CONSTRUCTOR => say_shape(b" constructor", a),
         _ => say_number(b" phi ", a),
     }
 }
@@ -43,8 +56,8 @@ fn say_kind(kind: u32, a: u32) {
 // How many types follow in a type.
 fn parts(kind: u32, a: u32) -> u32 {
     match kind {
-        5 | 6 => 1,
-        7 => a,
+        type_kinds::FUNCTION | type_kinds::CONSTRUCTOR => 1,
+        type_kinds::PHI => a,
         _ => 0,
     }
 }
@@ -54,7 +67,7 @@ fn own_words(kind: u32) -> usize
     ensures { λ r. ⌜ (1 ≤ r) × (r ≤ 2) ⌝ }
 {
     match kind {
-        1 | 2 | 3 => 1,
+        type_kinds::PRIMITIVE | type_kinds::POLY | type_kinds::OBJECT_METHOD => 1,
         _ => 2,
     }
 }
@@ -135,21 +148,21 @@ fn input_word(input: &[u8], number: u32) -> u32 {
 }
 
 // The words that follow the first three.
-fn image_words(input: &[u8]) -> [u32; 1024]
+fn image_words(input: &[u8]) -> [u32; MOST_WORDS]
     ensures { λ r. ⌜ 1024 ≡ length r ⌝ }
 {
-    let mut image = [0u32; 1024];
-    for i in 0..1024 {
+    let mut image = [0u32; MOST_WORDS];
+    for i in 0..MOST_WORDS {
         image[i] = input_word(input, 3 + i as u32);
     }
     image
 }
 
 // As many work words as any input is lent.
-fn work_words() -> [u32; 16384]
+fn work_words() -> [u32; MOST_WORK]
     ensures { λ r. ⌜ 16384 ≡ length r ⌝ }
 {
-    [0; 16384]
+    [0; MOST_WORK]
 }
 
 // Prints the answer to an input. False if it announces too much, or has another length than announced.
@@ -157,10 +170,10 @@ fn answer(input: &[u8]) -> bool {
     let words = input_word(input, 0) as usize;
     let bytes = input_word(input, 1) as usize;
     let budget = input_word(input, 2);
-    if words > 1024 || bytes > 4096 {
+    if words > MOST_WORDS || bytes > MOST_BYTES {
         return false;
     }
-    if budget > 1024 {
+    if budget > MOST_BUDGET {
         return false;
     }
     let names = 12 + 4 * words;
@@ -168,7 +181,7 @@ fn answer(input: &[u8]) -> bool {
         return false;
     }
     let image = image_words(input);
-    let lent = 8 * (words + budget as usize);
+    let lent = WORK_WORDS_EACH * (words + budget as usize);
     let mut work = work_words();
     let mut tables = [0u32; TABLE_WORDS];
     let answer = infer::infer_types(
@@ -183,7 +196,7 @@ fn answer(input: &[u8]) -> bool {
 }
 
 fn main() {
-    let mut input = [0u8; 8205];
+    let mut input = [0u8; MOST_INPUT];
     let got = io::read_full(STDIN_FILENO, &mut input);
     if !answer(&input[..got]) {
         say(b"input unfit\n");

@@ -8,6 +8,8 @@ ghost use Rattle.run_definition.specs.Fitting.{Identifiers-at, Instruction-fits
 ghost use Rattle.run_apply.specs.Applying.{Applying, Applies, Passing, Applies-next, Applies-to, Item-of-fits, place-visits, item-visits-at, items-visits-at, context-visits-at, phis-visits-at, inner-visits, nested-visits-at, instruction-visits-at, instructions-visits-at, block-visits-at, blocks-visits-at};
 use image::Table;
 use image::cell;
+use image::kinds;
+use image::tags;
 use run_layout::Layout;
 use run_walk::after_rows;
 use run_walk::slot_at;
@@ -35,7 +37,8 @@ fn resolve_at(img: &[u32], w: &mut [u32], lay: Layout, g: Pass, at: usize) -> Pa
     let left = g.left;
     let top = g.top;
     let stack = lay.stack;
-    let i = lay.entries as usize + slot_at(img, at) as usize;
+    let slot = slot_at(img, at);
+    let i = lay.entries as usize + slot.0 as usize;
     let n = w[i];
     let r = get(
         w,
@@ -67,15 +70,15 @@ fn apply_item(img: &[u32], w: &mut [u32], lay: Layout, g: Pass, at: usize, place
     ensures { λ r. ⌜ ((f b i k : ℕ) → Applies-next (item-visits-at (now (img .entry)) f b i k at place) (now (img .entry)) (now (w .entry)) (now (w .exit)) lay g r) ⌝ }
 {
     let tag = img[place];
-    if tag == 2 {
+    if tag == tags::HOLE {
         return g;
     }
     let h = resolve_at(img, w, lay, g, place + 1);
-    if tag != 4 {
+    if tag != tags::COMPUTED_KEY {
         return h;
     }
     let kind = img[at];
-    if kind == 6 {
+    if kind == kinds::DESTRUCTURE {
         return h;
     }
     resolve_at(img, w, lay, h, place + 2)
@@ -125,7 +128,9 @@ fn apply_instruction(img: &[u32], w: &mut [u32], lay: Layout, g: Pass, f: u32, a
     let h = resolve_at(img, w, lay, g, at + 1);
     let i = apply_items(img, w, lay, h, at);
     match img[at] {
-        17 | 30 => apply_inner(img, w, lay, i, img[at + 2]),
+        kinds::OBJECT_METHOD | kinds::FUNCTION_EXPRESSION => {
+            apply_inner(img, w, lay, i, img[at + 2])
+        }
         _ => i,
     }
 }

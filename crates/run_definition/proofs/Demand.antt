@@ -24,7 +24,9 @@ use Rattle.run_definition.specs.Rules.{Visited, entry-type, type-of-slot
 use Rattle.run_definition.proofs.Lists.{getD-inside, tabulate-at}
 use Rattle.image.proofs.CheckPassed.{check-passed}
 use Rattle.run_definition.proofs.ProgramScope.{Scoped-program, scoped-program}
+use Rattle.run_definition.proofs.GenerateScope.{generate-scoped}
 use Rattle.run_definition.proofs.BindingRows.{rows-lookup}
+use Rattle.run_definition.proofs.TableReading.{tables-injective}
 use Rattle.run_definition.proofs.Finished.{Finished, run-finished, finished-scope, finished-sound, finished-length}
 use Rattle.run_definition.proofs.VisitSound.{visits-visited}
 use Rattle.run_definition.proofs.VisitComplete.{visited-seen}
@@ -46,11 +48,19 @@ module _ {p : Program} (q : Scoped-program p) {budget : ℕ} {f : Final} {s : �
   unfolding entry-type
   image-entry j l = getD-inside (p .entries) j poly (var j) l
 
+  -- a visited slot is one of the image's
+  visited-slot : (j : ℕ) → Visited p j → j < length (p .entries)
+  visited-slot j v = subst (λ (x : ℕ). x < length (p .entries)) (v .slot) (q .slot (v .id))
+
+  -- and so stands in the tables
+  pub visited-inside : (j : ℕ) → Visited p j → j < length (f .types)
+  visited-inside j v = omega (arith, visited-slot j v, finished-length q r, generate-scoped q .grows)
+
   -- a visited slot's type is its entry type resolved
   pub visited-resolves : (j : ℕ) → Visited p j → Resolves (lookup (f .log)) (entry-type p j) (type-of-slot (f .types) j)
   visited-resolves j v =
       let (w, m, e) = visited-seen p (q .named) j v in
-      let l : j < length (p .entries) = subst (λ (x : ℕ). x < length (p .entries)) (v .slot) (q .slot (v .id)) in
+      let l = visited-slot j v in
       let a = r .applied .seen w m (subst (λ (x : ℕ). x < length (p .entries)) (sym e) l) in
       let b = subst (λ (x : ℕ). Resolves (lookup (f .log)) (getD (p .entries) x poly) (getD (r .front) x poly)) e a in
       rw (image-type j l, ← image-entry j l) b
@@ -81,6 +91,7 @@ module _ {p : Program} (q : Scoped-program p) {budget : ℕ} {f : Final} {s : �
       record {
         acyclic = λ x l. sound-leads (finished-sound q r) x (subst (λ (β : Bindings). Leads β x x) same-bindings l);
         no-poly = λ x e. sound-poly (finished-sound q r) x (subst (λ (β : Bindings). β x ≡ some poly) same-bindings e);
+        inside = visited-inside;
         resolved = λ j v. subst (λ (β : Bindings). Resolves β (entry-type p j) (type-of-slot (f .types) j)) (sym same-bindings) (visited-resolves j v);
         unbound = λ j x v m. subst (λ (β : Bindings). β x ≡ none) (sym same-bindings) (resolved-unbound (visited-resolves j v) .every x m);
         again = λ j v. subst (λ (β : Bindings). Resolves β (type-of-slot (f .types) j) (type-of-slot (f .types) j)) (sym same-bindings) (resolved-again (visited-resolves j v));
@@ -113,7 +124,15 @@ with-tables-sound : (p : Program) (lent steps : ℕ) (types : List Ty) (bindings
 unfolding with-tables refusal
 with-tables-sound p lent steps types bindings r e =
     by-bool (leb (length (tables-of types bindings)) lent)
-    (λ t. rw (t, with-tables) (record { types = types; bindings = bindings; slots = refl; bound = refl; words = refl; rules = r }))
+    (λ t.
+    rw (t, with-tables)
+    (record {
+      types = types;
+      bindings = bindings;
+      read = record { slots = refl; bound = refl; words = refl };
+      only = λ ts bs h. tables-injective ts types bs bindings (h .slots) (h .bound) (sym (h .words));
+      rules = r;
+    }))
     (λ t. let z : _≡_ {A = ℕ} 14 0 = rw (t, with-tables) at e in absurd (omega arith))
 
 refusal-not-done : (r : Refusal) → number-of r ≡ 0 → ⊥

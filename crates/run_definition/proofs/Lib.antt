@@ -12,6 +12,7 @@ pub mod Finished
 pub mod BindingRows
 pub mod RowSizes
 pub mod TableSizes
+pub mod TableReading
 pub mod VisitSound
 pub mod VisitComplete
 pub mod Demand

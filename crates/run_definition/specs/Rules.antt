@@ -53,27 +53,34 @@ pub record Visited (p : Program) (j : ℕ) : Type 0 where
 unfoldable pub entry-type : Program → ℕ → Ty
 entry-type p j = getD (p .entries) j (var j)
 
--- a slot's type in the tables
+-- a slot's type in the tables: every slot that the rules speak of is inside them
 unfoldable pub type-of-slot : List Ty → ℕ → Ty
 type-of-slot types j = getD types j poly
 
--- no variable leads back to itself and no binding is Poly; a visited slot is its entry type resolved, which mentions unbound variables
--- only and so resolves to itself; every other slot is as it entered
+-- no variable leads back to itself and no binding is Poly; a visited slot stands in the tables and is its entry type resolved, which
+-- mentions unbound variables only and so resolves to itself; every other slot of the tables is as it entered
 pub record Rules (p : Program) (types : List Ty) (bindings : List Binding) : Type 0 where
   pub acyclic : (x : ℕ) → Leads (lookup bindings) x x → ⊥
   pub no-poly : (x : ℕ) → lookup bindings x ≡ some poly → ⊥
+  pub inside : (j : ℕ) → Visited p j → j < length types
   pub resolved : (j : ℕ) → Visited p j → Resolves (lookup bindings) (entry-type p j) (type-of-slot types j)
   pub unbound : (j x : ℕ) → Visited p j → Mentions (type-of-slot types j) x → lookup bindings x ≡ none
   pub again : (j : ℕ) → Visited p j → Resolves (lookup bindings) (type-of-slot types j) (type-of-slot types j)
   pub kept : (j : ℕ) → j < length types → (Visited p j → ⊥) → type-of-slot types j ≡ entry-type p j
 
--- the words of a finished run are those of types and bindings, as many as the answer says, that keep the rules
-pub record Tables-sound (p : Program) (o : Output) : Type 0 where
-  pub types : List Ty
-  pub bindings : List Binding
+-- the words of an output are those of these types and bindings, as many as its answer says
+pub record Read-as (o : Output) (types : List Ty) (bindings : List Binding) : Type 0 where
   pub slots : length types ≡ o .answer .slots
   pub bound : length bindings ≡ o .answer .bindings
   pub words : o .tables ≡ tables-of types bindings
+
+-- the words of a finished run are those of the types and bindings here and, by the counts of its answer, of no others; these keep the
+-- rules
+pub record Tables-sound (p : Program) (o : Output) : Type 0 where
+  pub types : List Ty
+  pub bindings : List Binding
+  pub read : Read-as o types bindings
+  pub only : (types′ : List Ty) (bindings′ : List Binding) → Read-as o types′ bindings′ → (types′ ≡ types) × (bindings′ ≡ bindings)
   pub rules : Rules p types bindings
 
 -- the numbers of a run that passed the check: done, 11, 12, 13 or 14

@@ -1,4 +1,6 @@
 // The equations of the instructions that read and log no name, of parameters, phis and returns.
+// An instruction at a position has its lvalue at + 1, aux at + 2, the number of its items at + 3, and the items from + 4 on, of three
+// words each: tag, identifier, key. So the identifiers of the first two stand at + 5 and + 8.
 ghost use mathlib.Core.Path.{_≡_};
 ghost use Prim.Native.Nat.{_+_, _<_};
 ghost use mathlib.Core.Bool.{false, _&&_};
@@ -19,15 +21,23 @@ ghost use Rattle.run_walk.specs.Solving.{place-type, Solving, At-instruction, S
 ghost use Rattle.run_equations.specs.Parts.{Call-asked, Calls, Attribute-asked, Param-asked, Component-asked, Function-asked};
 ghost use Rattle.image.specs.Laid.{Names-inside};
 use image::NONE;
+use image::TypeId;
+use image::header;
+use image::markers;
 use image::name_bytes;
+use image::shapes;
+use image::tags;
+use image::type_kinds;
 use names::same_bytes;
 use run_layout::Layout;
+use run_layout::OWN_METHOD;
 use run_walk::Walk;
 use run_walk::equal;
 use run_walk::equal_made;
 use run_walk::object_of;
 use run_walk::slot_at;
 use run_walk::spent;
+use run_walk::var_at;
 use unifier_nodes::node::node_of_type;
 
 pub fn primitive(img: &[u32], w: &mut [u32], lay: Layout, g: Walk, at: usize) -> Walk
@@ -49,7 +59,7 @@ pub fn object_method(img: &[u32], w: &mut [u32], lay: Layout, g: Walk, at: usize
     requires { ⌜ At-instruction (now img) (now w) lay g at 0 ⌝ }
     ensures { λ r. ⌜ Solves (place-type (now (img .entry)) (at + 1) ≐ method ∷ []) 0 (now (w .entry)) (now (w .exit)) lay g r ⌝ }
 {
-    equal(w, lay, g, slot_at(img, at + 1), lay.own + 3)
+    equal(w, lay, g, slot_at(img, at + 1), lay.own + OWN_METHOD)
 }
 
 // The lvalue is its first item.
@@ -57,14 +67,14 @@ pub fn alias(img: &[u32], w: &mut [u32], lay: Layout, g: Walk, at: usize) -> Wal
     requires { ⌜ At-instruction (now img) (now w) lay g at 1 ⌝ }
     ensures { λ r. ⌜ Solves (place-type (now (img .entry)) (at + 1) ≐ place-type (now (img .entry)) (at + 5) ∷ []) 0 (now (w .entry)) (now (w .exit)) lay g r ⌝ }
 {
-    equal(w, lay, g, slot_at(img, at + 1), slot_at(img, at + 5))
+    equal(w, lay, g, slot_at(img, at + 1), var_at(img, at + 5))
 }
 
 pub fn store_local(img: &[u32], w: &mut [u32], lay: Layout, g: Walk, at: usize) -> Walk
     requires { ⌜ At-instruction (now img) (now w) lay g at 2 ⌝ }
     ensures { λ r. ⌜ Solves (place-type (now (img .entry)) (at + 1) ≐ place-type (now (img .entry)) (at + 8) ∷ place-type (now (img .entry)) (at + 5) ≐ place-type (now (img .entry)) (at + 8) ∷ []) 0 (now (w .entry)) (now (w .exit)) lay g r ⌝ }
 {
-    let value = slot_at(img, at + 8);
+    let value = var_at(img, at + 8);
     let h = equal(w, lay, g, slot_at(img, at + 1), value);
     equal(w, lay, h, slot_at(img, at + 5), value)
 }
@@ -77,7 +87,7 @@ pub fn store_context(img: &[u32], w: &mut [u32], lay: Layout, g: Walk, at: usize
     if img[at + 2] != 1 {
         return g;
     }
-    equal(w, lay, g, slot_at(img, at + 5), slot_at(img, at + 8))
+    equal(w, lay, g, slot_at(img, at + 5), var_at(img, at + 8))
 }
 
 // Both items and the lvalue.
@@ -137,10 +147,10 @@ pub fn call(
     if left == 0 {
         return spent(g);
     }
-    let made = g.next;
-    let mut h = equal_made(w, lay, g, slot_at(img, callee), kind, shape, made);
-    h.next = made + 1;
-    equal(w, lay, h, slot_at(img, at + 1), made)
+    let made = TypeId(g.next);
+    let mut h = equal_made(w, lay, g, slot_at(img, callee), kind, shape, made.0);
+    h.next = made.0 + 1;
+    equal(w, lay, h, slot_at(img, at + 1), made.0)
 }
 
 // A FunctionExpression's own equation, after its function.
@@ -155,7 +165,15 @@ pub fn function_type(
     requires { ⌜ At-instruction (now img) (now w) lay g at 0 × Place-fits (now img) returns ⌝ }
     ensures { λ r. ⌜ Solves (place-type (now (img .entry)) (at + 1) ≐ func false FUNCTION (place-type (now (img .entry)) returns) ∷ []) 0 (now (w .entry)) (now (w .exit)) lay g r ⌝ }
 {
-    equal_made(w, lay, g, slot_at(img, at + 1), 5, 5, slot_at(img, returns))
+    equal_made(
+        w,
+        lay,
+        g,
+        slot_at(img, at + 1),
+        type_kinds::FUNCTION,
+        shapes::BUILT_IN_FUNCTION_ID,
+        var_at(img, returns),
+    )
 }
 
 // Computed keys are Primitive.
@@ -166,11 +184,17 @@ pub fn object_expression(img: &[u32], w: &mut [u32], lay: Layout, g0: Walk, at: 
     let mut g = g0;
     for k in 0..img[at + 3] {
         let i = at + 4 + 3 * k as usize;
-        if img[i] == 4 {
+        if img[i] == tags::COMPUTED_KEY {
             g = equal(w, lay, g, slot_at(img, i + 2), lay.own);
         }
     }
-    equal(w, lay, g, slot_at(img, at + 1), object_of(lay, 3))
+    equal(
+        w,
+        lay,
+        g,
+        slot_at(img, at + 1),
+        object_of(lay, shapes::BUILT_IN_OBJECT_ID),
+    )
 }
 
 // Whether an item is an attribute "ref".
@@ -178,7 +202,7 @@ fn is_ref_attribute(img: &[u32], bytes: &[u8], at: usize) -> bool
     requires { ⌜ Attribute-asked (now img) (now bytes) at ⌝ }
     ensures { λ r. ⌜ r ≡ has-tag ATTRIBUTE (item-at (now (img .entry)) at) && same (name-of (program (now (img .entry)) (now (bytes .entry))) (word (now (img .entry)) (at + 2))) ref-bytes ⌝ }
 {
-    if img[at] != 6 {
+    if img[at] != tags::ATTRIBUTE {
         return false;
     }
     same_bytes(name_bytes(img, bytes, img[at + 2]), b"ref")
@@ -199,7 +223,13 @@ fn ref_attributes(
     for k in 0..img[at + 3] {
         let i = at + 4 + 3 * k as usize;
         if is_ref_attribute(img, bytes, i) {
-            g = equal(w, lay, g, slot_at(img, i + 1), object_of(lay, 1));
+            g = equal(
+                w,
+                lay,
+                g,
+                slot_at(img, i + 1),
+                object_of(lay, shapes::BUILT_IN_USE_REF_ID),
+            );
         }
     }
     g
@@ -217,11 +247,17 @@ pub fn jsx_expression(
     requires { ⌜ At-instruction (now img) (now w) lay g at 0 × Names-inside (now img) (now bytes) ⌝ }
     ensures { λ r. ⌜ Solves (when (program (now (img .entry)) (now (bytes .entry)) .treats-refs) (flatMap (attribute-equations (program (now (img .entry)) (now (bytes .entry)))) (items-at (now (img .entry)) (at + 4) (word (now (img .entry)) (at + 3)))) ++ place-type (now (img .entry)) (at + 1) ≐ object-type JSX ∷ []) 0 (now (w .entry)) (now (w .exit)) lay g r ⌝ }
 {
-    if img[1] % 2 != 1 {
-        return object(img, w, lay, g, at, 6);
+    if img[header::OPTIONS] % 2 != 1 {
+        return object(img, w, lay, g, at, shapes::BUILT_IN_JSX_ID);
     }
     let h = ref_attributes(img, bytes, w, lay, g, at);
-    equal(w, lay, h, slot_at(img, at + 1), object_of(lay, 6))
+    equal(
+        w,
+        lay,
+        h,
+        slot_at(img, at + 1),
+        object_of(lay, shapes::BUILT_IN_JSX_ID),
+    )
 }
 
 // The place of a phi is the Phi of its operands.
@@ -234,7 +270,7 @@ pub fn phi(img: &[u32], w: &mut [u32], lay: Layout, g: Walk, at: usize) -> Walk
         lay,
         g,
         slot_at(img, at),
-        7,
+        type_kinds::PHI,
         lay.places + at as u32 + 2,
         img[at + 1],
     )
@@ -245,7 +281,7 @@ fn param(img: &[u32], w: &mut [u32], lay: Layout, g: Walk, at: usize, shape: u32
     requires { ⌜ Param-asked (now img) (now w) lay g at shape ⌝ }
     ensures { λ r. ⌜ Solves-next (when (eqb (word (now (img .entry)) at) 0) (place-type (now (img .entry)) (at + 1) ≐ object-type shape ∷ [])) (now (w .entry)) (now (w .exit)) lay g r ⌝ }
 {
-    if img[at] != 0 {
+    if img[at] != markers::PLACE_PARAM {
         return g;
     }
     equal(w, lay, g, slot_at(img, at + 1), object_of(lay, shape))
@@ -256,18 +292,18 @@ pub fn component(img: &[u32], w: &mut [u32], lay: Layout, g: Walk, at: usize) ->
     requires { ⌜ Solving (now img) (now w) lay g × Component-asked (now img) at ⌝ }
     ensures { λ r. ⌜ Solves-by (λ bytes. component-equations (program (now (img .entry)) bytes) (body-from (now (img .entry)) at)) (now (w .entry)) (now (w .exit)) lay g r ⌝ }
 {
-    if img[at] != 0 {
+    if img[at] != markers::COMPONENT {
         return g;
     }
     let n = img[at + 2];
     if n == 0 {
         return g;
     }
-    let h = param(img, w, lay, g, at + 3, 0);
+    let h = param(img, w, lay, g, at + 3, shapes::BUILT_IN_PROPS_ID);
     if n == 1 {
         return h;
     }
-    param(img, w, lay, h, at + 5, 1)
+    param(img, w, lay, h, at + 5, shapes::BUILT_IN_USE_REF_ID)
 }
 
 // The returns identifier is what is returned: nothing, one type, or a Phi of them.
@@ -285,5 +321,5 @@ pub fn returns(img: &[u32], w: &mut [u32], lay: Layout, g: Walk, f: u32, at: usi
         let one = w[from as usize + 1];
         return equal(w, lay, g, place, one);
     }
-    equal_made(w, lay, g, place, 7, from + 1, n)
+    equal_made(w, lay, g, place, type_kinds::PHI, from + 1, n)
 }

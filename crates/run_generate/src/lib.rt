@@ -16,6 +16,9 @@ ghost use Rattle.run_generate.specs.Generating.{generate-for, Expression
 use image::NONE;
 use image::Table;
 use image::cell;
+use image::kinds;
+use image::shapes;
+use image::type_kinds;
 use run_equations::alias;
 use run_equations::binary;
 use run_equations::call;
@@ -52,6 +55,7 @@ fn function_expression(img: &[u32], w: &mut [u32], lay: Layout, g: Walk, at: usi
 }
 
 // The equations of an instruction by its kind; an inner function is done before.
+// Kinds with numbers in sequence have an arm each: one arm for both would be a test of a range, and longer to prove.
 fn instruction_types(
     img: &[u32],
     bytes: &[u8],
@@ -65,30 +69,37 @@ fn instruction_types(
     ensures { λ r. ⌜ Generates-as (kind-of (instruction-at (now (img .entry)) at)) (now (img .entry)) (now (bytes .entry)) (now (w .entry)) (now (w .exit)) lay stretch g at r ⌝ }
 {
     match img[at] {
-        0 => load_local(img, bytes, w, lay, g, stretch, at),
-        4 => store_local(img, w, lay, g, at),
-        5 => store_context(img, w, lay, g, at),
-        6 => destructure(img, bytes, w, lay, g, stretch, at),
-        7 => primitive(img, w, lay, g, at),
-        8 | 13 | 24 | 27 | 32 | 36 => primitive(img, w, lay, g, at),
-        9 => binary(img, w, lay, g, at),
-        10 => call(img, w, lay, g, at, at + 5, 6, NONE),
-        11 => call_expression(img, bytes, w, lay, g, stretch, at),
-        12 => call(img, w, lay, g, at, at + 8, 5, NONE),
-        14 | 29 => alias(img, w, lay, g, at),
-        15 => jsx_expression(img, bytes, w, lay, g, at),
-        16 => object_expression(img, w, lay, g, at),
-        17 => object_method(img, w, lay, g, at),
-        18 => object(img, w, lay, g, at, 4),
-        19 => object(img, w, lay, g, at, 6),
-        22 => property_store(img, bytes, w, lay, g, stretch, at),
-        23 => property_load(img, bytes, w, lay, g, stretch, at),
-        26 => computed_load(img, bytes, w, lay, g, stretch, at),
-        28 => load_global(img, w, lay, g, at),
-        30 => function_expression(img, w, lay, g, at),
-        31 => call(img, w, lay, g, at, at + 5, 5, NONE),
-        37 => primitives(img, w, lay, g, at),
-        38 => primitives(img, w, lay, g, at),
+        kinds::LOAD_LOCAL => load_local(img, bytes, w, lay, g, stretch, at),
+        kinds::STORE_LOCAL => store_local(img, w, lay, g, at),
+        kinds::STORE_CONTEXT => store_context(img, w, lay, g, at),
+        kinds::DESTRUCTURE => destructure(img, bytes, w, lay, g, stretch, at),
+        kinds::PRIMITIVE => primitive(img, w, lay, g, at),
+        kinds::JSX_TEXT
+        | kinds::UNARY_EXPRESSION
+        | kinds::PROPERTY_DELETE
+        | kinds::COMPUTED_DELETE
+        | kinds::TEMPLATE_LITERAL
+        | kinds::NEXT_PROPERTY_OF => primitive(img, w, lay, g, at),
+        kinds::BINARY_EXPRESSION => binary(img, w, lay, g, at),
+        kinds::NEW_EXPRESSION => call(img, w, lay, g, at, at + 5, type_kinds::CONSTRUCTOR, NONE),
+        kinds::CALL_EXPRESSION => call_expression(img, bytes, w, lay, g, stretch, at),
+        kinds::METHOD_CALL => call(img, w, lay, g, at, at + 8, type_kinds::FUNCTION, NONE),
+        kinds::TYPE_CAST_EXPRESSION | kinds::STORE_GLOBAL => alias(img, w, lay, g, at),
+        kinds::JSX_EXPRESSION => jsx_expression(img, bytes, w, lay, g, at),
+        kinds::OBJECT_EXPRESSION => object_expression(img, w, lay, g, at),
+        kinds::OBJECT_METHOD => object_method(img, w, lay, g, at),
+        kinds::ARRAY_EXPRESSION => object(img, w, lay, g, at, shapes::BUILT_IN_ARRAY_ID),
+        kinds::JSX_FRAGMENT => object(img, w, lay, g, at, shapes::BUILT_IN_JSX_ID),
+        kinds::PROPERTY_STORE => property_store(img, bytes, w, lay, g, stretch, at),
+        kinds::PROPERTY_LOAD => property_load(img, bytes, w, lay, g, stretch, at),
+        kinds::COMPUTED_LOAD => computed_load(img, bytes, w, lay, g, stretch, at),
+        kinds::LOAD_GLOBAL => load_global(img, w, lay, g, at),
+        kinds::FUNCTION_EXPRESSION => function_expression(img, w, lay, g, at),
+        kinds::TAGGED_TEMPLATE_EXPRESSION => {
+            call(img, w, lay, g, at, at + 5, type_kinds::FUNCTION, NONE)
+        }
+        kinds::PREFIX_UPDATE => primitives(img, w, lay, g, at),
+        kinds::POSTFIX_UPDATE => primitives(img, w, lay, g, at),
         _ => g,
     }
 }
@@ -118,7 +129,7 @@ fn generate_instruction(
     ensures { λ r. ⌜ Generates (λ ns k. generate-instruction (program (now (img .entry)) (now (bytes .entry))) (generate-for (program (now (img .entry)) (now (bytes .entry)))) ns k (instruction-at (now (img .entry)) at)) (now (img .entry)) (now (bytes .entry)) (now (w .entry)) (now (w .exit)) lay stretch g r ⌝ }
 {
     match img[at] {
-        17 | 30 => {
+        kinds::OBJECT_METHOD | kinds::FUNCTION_EXPRESSION => {
             let h = inner(img, bytes, w, lay, g, img[at + 2]);
             let refused = h.refused;
             if refused != 0 {

@@ -8,8 +8,21 @@ use image::IdentifierId;
 use image::Table;
 use image::cell;
 use image::count;
+use image::markers;
+use image::type_kinds;
+use unifier_nodes::node::NODE_WORDS;
 use unifier_nodes::node::node_of_type;
 use unifier_nodes::node::put_node;
+
+// The own nodes: the Primitive; after so many words the ObjectMethod; after so many the Objects of the first shapes.
+pub const OWN_METHOD: u32 = 3;
+
+pub const OWN_OBJECTS: u32 = 6;
+
+// How many shapes these are, and the words of all own nodes.
+pub const OWN_SHAPES: u32 = 8;
+
+pub const OWN_WORDS: u32 = 30;
 
 // The image's slots; where the nodes start; the lists of the image's Phis; by image position the slot of the identifier there; by
 // a body's position the slots that it returns; the own nodes; where nodes are made; the operands in hand; the names log; the slots' types.
@@ -33,11 +46,11 @@ fn layout_for(img: &[u32], budget: u32) -> Layout
     let size = img.len() as u32;
     let slots = count(img, Table::Slots);
     let lo = slots + budget;
-    let lists = lo + 3 * count(img, Table::Types);
+    let lists = lo + NODE_WORDS * count(img, Table::Types);
     let places = lists + count(img, Table::Lists);
     let returns = places + size;
     let own = returns + size;
-    let top = own + 30;
+    let top = own + OWN_WORDS;
     let stack = top + 4 * budget;
     let log = stack + budget;
     let entries = log + 2 * budget;
@@ -75,9 +88,11 @@ fn lay_type(img: &[u32], w: &mut [u32], lo: u32, lists: u32, t: u32)
     let a = cell(img, Table::Types, t, 1);
     let b = cell(img, Table::Types, t, 2);
     match kind {
-        5 | 6 => put_node(w, lo + 3 * t, kind, a, node_of_type(img, lo, b)),
-        7 => put_node(w, lo + 3 * t, 7, lists + a, b),
-        _ => put_node(w, lo + 3 * t, kind, a, b),
+        type_kinds::FUNCTION | type_kinds::CONSTRUCTOR => {
+            put_node(w, lo + NODE_WORDS * t, kind, a, node_of_type(img, lo, b))
+        }
+        type_kinds::PHI => put_node(w, lo + NODE_WORDS * t, type_kinds::PHI, lists + a, b),
+        _ => put_node(w, lo + NODE_WORDS * t, kind, a, b),
     }
 }
 
@@ -116,23 +131,29 @@ fn lay_places(img: &[u32], w: &mut [u32], lay: Layout)
     let places = lay.places as usize;
     let n = count(img, Table::Identifiers);
     for k in 0..img.len() {
-        let id = img[k];
-        if id < n {
-            let slot = image::slot_of(img, IdentifierId(id));
+        let id = IdentifierId(img[k]);
+        if id.0 < n {
+            let slot = image::slot_of(img, id);
             w[places + k] = slot.0;
         }
     }
 }
 
-// Primitive, ObjectMethod, and the Objects of shapes 0 to 7.
+// The own nodes.
 fn lay_own(w: &mut [u32], own: u32)
     requires { ⌜ Own-asked (now w) own ⌝ }
     ensures { λ _. ⌜ Lays-own (now (w .entry)) (now (w .exit)) own ⌝ }
 {
-    put_node(w, own, 1, 0, 0);
-    put_node(w, own + 3, 3, 0, 0);
-    for s in 0..8 {
-        put_node(w, own + 6 + 3 * s, 4, s, 0);
+    put_node(w, own, type_kinds::PRIMITIVE, 0, 0);
+    put_node(w, own + OWN_METHOD, type_kinds::OBJECT_METHOD, 0, 0);
+    for s in 0..OWN_SHAPES {
+        put_node(
+            w,
+            own + OWN_OBJECTS + NODE_WORDS * s,
+            type_kinds::OBJECT,
+            s,
+            0,
+        );
     }
 }
 
@@ -169,7 +190,7 @@ fn lay_returned(img: &[u32], w: &mut [u32], lay: Layout, returns: usize, from: u
     for _ in 0..n {
         let a = after_phis(img, at + 1, img[at]);
         let b = after_instructions(img, a + 1, img[a]);
-        if img[b] == 1 {
+        if img[b] == markers::RETURN {
             m += 1;
             w[returns + m as usize] = w[places + b + 1];
         }

@@ -27,6 +27,7 @@ use Rattle.unifier_nodes.specs.declared.state.State.{State}
 use Rattle.unifier_definition.proofs.Outcomes.{by-bool}
 use Rattle.unifier_nodes.proofs.Frames.{Same}
 use Rattle.unifier_properties.proofs.Registered.{registry-inside}
+use Rattle.unifier.proofs.Accesses.{property-access}
 use Rattle.run_definition.specs.Items.{item-id}
 use Rattle.run_definition.specs.Equations.{Names-log, Generated, get-type, access, property-literal, callee-shape, generate-instruction-types}
 use Rattle.run_definition.specs.Generate.{only}
@@ -133,15 +134,16 @@ module _ {img bytes w : List ℕ} {lay : Layout} {stretch : ℕ} {g : Walk} wher
         → Does (λ ns. var slot ≐-property access (program img bytes) ns id (key-name img bytes key) ∷ []) img bytes w w′ lay stretch g r
     unfolding only access get-type
     property-generates {w′ = w′} t h q =
-        let keeps = unified-keeps (a .ready .solving) (h .keeps) in
+        let keeps = unified-keeps (a .ready .solving) (h .binds .keeps) in
         rw q (record {
           keeps = keeps;
           means = λ σ ns good logged.
               let o = a .ready .opened in
               let same : Same w w′ stretch (g .log) = λ k l b. keeps .names k (omega arith) b in
               let x = access (program img bytes) ns id (key-name img bytes key) in
-              let y = h .means σ (var slot) (var obj) x good slot-rep object-rep-of (ap var (slot-is img bytes id (a .id-inside) ∙ sym d)) refl (sym (t .is ns logged)) in
-              let e = one-property (registry-of img bytes) σ (g .left) (var slot) x in
+              let y = h .binds .means σ (var slot) (var obj) good slot-rep object-rep-of in
+              let u = ap var (slot-is img bytes id (a .id-inside) ∙ sym d) in
+              let e = one-property (registry-of img bytes) σ (g .left) (var slot) x ∙ property-access (registry-of img bytes) σ (g .left) (var slot) x u (sym (t .is ns logged)) in
               record {
                 finished = λ z. let f = y .finished z in (f .0, e ∙ f .1, f .2, logged-same same logged, refl);
                 ended = λ z. refuses-as e (y .ended z);

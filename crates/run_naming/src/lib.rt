@@ -15,7 +15,12 @@ ghost use Rattle.run_walk.specs.Running.{Ready-at, Generates, Generates-as};
 ghost use Rattle.run_naming.specs.Naming.{Names-known, Finds-name, Tells-shape, Tells-ref, Property-asked, Reads-literal, Logs-name, Log-asked, Element-asked};
 use image::IdentifierId;
 use image::NONE;
+use image::TypeId;
+use image::header;
 use image::name_bytes;
+use image::shapes;
+use image::tags;
+use image::type_kinds;
 use names::is_ref_like_name;
 use names::same_bytes;
 use names::starts_with_set;
@@ -26,6 +31,7 @@ use run_walk::equal;
 use run_walk::object_of;
 use run_walk::slot_at;
 use run_walk::spent;
+use run_walk::var_at;
 use run_walk::walked;
 use unifier::access::Places;
 use unifier::access::unify_property;
@@ -33,14 +39,21 @@ use unifier_nodes::state::State;
 use unifier_properties::Key;
 
 // The newest name that is logged for an identifier, empty if there is none.
-fn logged_name<'a>(img: &[u32], bytes: &'a [u8], w: &[u32], from: u32, to: u32, id: u32) -> &'a [u8]
+fn logged_name<'a>(
+    img: &[u32],
+    bytes: &'a [u8],
+    w: &[u32],
+    from: u32,
+    to: u32,
+    id: IdentifierId,
+) -> &'a [u8]
     requires { ⌜ Names-known (now img) (now bytes) (now w) from to ⌝ }
-    ensures { λ r. ⌜ Finds-name (now (img .entry)) (now (bytes .entry)) (now (w .entry)) from to id (now r) ⌝ }
+    ensures { λ r. ⌜ Finds-name (now (img .entry)) (now (bytes .entry)) (now (w .entry)) from to (id .0) (now r) ⌝ }
 {
     let mut k = to;
     while k > from {
         k -= 2;
-        if w[k as usize] == id {
+        if w[k as usize] == id.0 {
             return name_bytes(img, bytes, w[k as usize + 1]);
         }
     }
@@ -48,15 +61,15 @@ fn logged_name<'a>(img: &[u32], bytes: &'a [u8], w: &[u32], from: u32, to: u32, 
 }
 
 // The shape of a call's callee, by option bit 1 and its name.
-fn callee_shape(img: &[u32], bytes: &[u8], w: &[u32], from: u32, to: u32, id: u32) -> u32
+fn callee_shape(img: &[u32], bytes: &[u8], w: &[u32], from: u32, to: u32, id: IdentifierId) -> u32
     requires { ⌜ Names-known (now img) (now bytes) (now w) from to ⌝ }
-    ensures { λ r. ⌜ Tells-shape (now (img .entry)) (now (bytes .entry)) (now (w .entry)) from to id r ⌝ }
+    ensures { λ r. ⌜ Tells-shape (now (img .entry)) (now (bytes .entry)) (now (w .entry)) from to (id .0) r ⌝ }
 {
-    if img[1] / 2 % 2 != 1 {
+    if img[header::OPTIONS] / 2 % 2 != 1 {
         return NONE;
     }
     if starts_with_set(logged_name(img, bytes, w, from, to, id)) {
-        return 2;
+        return shapes::BUILT_IN_SET_STATE_ID;
     }
     NONE
 }
@@ -68,13 +81,13 @@ fn is_ref_access(
     w: &[u32],
     from: u32,
     to: u32,
-    id: u32,
+    id: IdentifierId,
     key: Key,
 ) -> bool
     requires { ⌜ Names-known (now img) (now bytes) (now w) from to × Key-inside (now img) key ⌝ }
-    ensures { λ r. ⌜ Tells-ref (now (img .entry)) (now (bytes .entry)) (now (w .entry)) from to id key r ⌝ }
+    ensures { λ r. ⌜ Tells-ref (now (img .entry)) (now (bytes .entry)) (now (w .entry)) from to (id .0) key r ⌝ }
 {
-    if img[1] % 2 != 1 {
+    if img[header::OPTIONS] % 2 != 1 {
         return false;
     }
     let Key::String(n) = key else {
@@ -95,21 +108,21 @@ fn property(
     lay: Layout,
     g: Walk,
     stretch: u32,
-    slot: u32,
-    id: u32,
+    slot: TypeId,
+    id: IdentifierId,
     key: Key,
 ) -> Walk
-    requires { ⌜ Property-asked (now img) (now bytes) (now w) lay stretch g slot id key ⌝ }
-    ensures { λ r. ⌜ Generates (λ ns k. only (var slot ≐-property access (program (now (img .entry)) (now (bytes .entry))) ns id (key-name (now (img .entry)) (now (bytes .entry)) key) ∷ []) ns k) (now (img .entry)) (now (bytes .entry)) (now (w .entry)) (now (w .exit)) lay stretch g r ⌝ }
+    requires { ⌜ Property-asked (now img) (now bytes) (now w) lay stretch g (slot .0) (id .0) key ⌝ }
+    ensures { λ r. ⌜ Generates (λ ns k. only (var (slot .0) ≐-property access (program (now (img .entry)) (now (bytes .entry))) ns (id .0) (key-name (now (img .entry)) (now (bytes .entry)) key) ∷ []) ns k) (now (img .entry)) (now (bytes .entry)) (now (w .entry)) (now (w .exit)) lay stretch g r ⌝ }
 {
     let ref_like = is_ref_access(img, bytes, w, stretch, g.log, id, key);
-    let object = image::slot_of(img, IdentifierId(id));
+    let object = image::slot_of(img, id);
     let left = g.left;
     let top = g.top;
     let lo = lay.lo;
     let stack = lay.stack;
-    let use_ref = object_of(lay, 1);
-    let ref_value = object_of(lay, 7);
+    let use_ref = object_of(lay, shapes::BUILT_IN_USE_REF_ID);
+    let ref_value = object_of(lay, shapes::BUILT_IN_REF_VALUE_ID);
     let st = unify_property(
         img,
         bytes,
@@ -126,7 +139,7 @@ fn property(
             stack,
             refused: 0,
         },
-        slot,
+        slot.0,
         object.0,
         key,
         ref_like,
@@ -158,7 +171,8 @@ pub fn property_load(
 {
     let slot = slot_at(img, at + 1);
     let key = literal(img[at + 2]);
-    property(img, bytes, w, lay, g, stretch, slot, img[at + 5], key)
+    let id = IdentifierId(img[at + 5]);
+    property(img, bytes, w, lay, g, stretch, slot, id, key)
 }
 
 pub fn computed_load(
@@ -174,17 +188,8 @@ pub fn computed_load(
     ensures { λ r. ⌜ Generates-as ComputedLoad (now (img .entry)) (now (bytes .entry)) (now (w .entry)) (now (w .exit)) lay stretch g at r ⌝ }
 {
     let slot = slot_at(img, at + 1);
-    property(
-        img,
-        bytes,
-        w,
-        lay,
-        g,
-        stretch,
-        slot,
-        img[at + 5],
-        Key::Computed,
-    )
+    let id = IdentifierId(img[at + 5]);
+    property(img, bytes, w, lay, g, stretch, slot, id, Key::Computed)
 }
 
 // A callee whose logged name starts with "set" may be a state setter.
@@ -200,8 +205,8 @@ pub fn call_expression(
     requires { ⌜ Ready-at (now img) (now bytes) (now w) lay stretch g at 1 ⌝ }
     ensures { λ r. ⌜ Generates-as CallExpression (now (img .entry)) (now (bytes .entry)) (now (w .entry)) (now (w .exit)) lay stretch g at r ⌝ }
 {
-    let shape = callee_shape(img, bytes, w, stretch, g.log, img[at + 5]);
-    call(img, w, lay, g, at, at + 5, 5, shape)
+    let shape = callee_shape(img, bytes, w, stretch, g.log, IdentifierId(img[at + 5]));
+    call(img, w, lay, g, at, at + 5, type_kinds::FUNCTION, shape)
 }
 
 // A slot is made for what is stored.
@@ -221,10 +226,11 @@ pub fn property_store(
     if left == 0 {
         return spent(g);
     }
-    let slot = g.next;
+    let slot = TypeId(g.next);
     let key = literal(img[at + 2]);
-    let mut h = property(img, bytes, w, lay, g, stretch, slot, img[at + 5], key);
-    h.next = slot + 1;
+    let id = IdentifierId(img[at + 5]);
+    let mut h = property(img, bytes, w, lay, g, stretch, slot, id, key);
+    h.next = slot.0 + 1;
     h
 }
 
@@ -236,15 +242,15 @@ fn array_element(
     lay: Layout,
     g: Walk,
     stretch: u32,
-    value: u32,
+    value: IdentifierId,
     k: u32,
     at: usize,
 ) -> Walk
-    requires { ⌜ Element-asked (now img) (now bytes) (now w) lay stretch g value at ⌝ }
-    ensures { λ r. ⌜ Generates (λ ns s. only (array-equations (program (now (img .entry)) (now (bytes .entry))) ns value k (item-at (now (img .entry)) at)) ns s) (now (img .entry)) (now (bytes .entry)) (now (w .entry)) (now (w .exit)) lay stretch g r ⌝ }
+    requires { ⌜ Element-asked (now img) (now bytes) (now w) lay stretch g (value .0) at ⌝ }
+    ensures { λ r. ⌜ Generates (λ ns s. only (array-equations (program (now (img .entry)) (now (bytes .entry))) ns (value .0) k (item-at (now (img .entry)) at)) ns s) (now (img .entry)) (now (bytes .entry)) (now (w .entry)) (now (w .exit)) lay stretch g r ⌝ }
 {
     match img[at] {
-        0 => {
+        tags::PLACE => {
             let slot = slot_at(img, at + 1);
             property(
                 img,
@@ -258,7 +264,13 @@ fn array_element(
                 Key::Position(k),
             )
         }
-        1 => equal(w, lay, g, slot_at(img, at + 1), object_of(lay, 4)),
+        tags::SPREAD => equal(
+            w,
+            lay,
+            g,
+            slot_at(img, at + 1),
+            object_of(lay, shapes::BUILT_IN_ARRAY_ID),
+        ),
         _ => g,
     }
 }
@@ -271,13 +283,13 @@ fn object_property(
     lay: Layout,
     g: Walk,
     stretch: u32,
-    value: u32,
+    value: IdentifierId,
     at: usize,
 ) -> Walk
-    requires { ⌜ Element-asked (now img) (now bytes) (now w) lay stretch g value at ⌝ }
-    ensures { λ r. ⌜ Generates (λ ns s. only (object-equations (program (now (img .entry)) (now (bytes .entry))) ns value (item-at (now (img .entry)) at)) ns s) (now (img .entry)) (now (bytes .entry)) (now (w .entry)) (now (w .exit)) lay stretch g r ⌝ }
+    requires { ⌜ Element-asked (now img) (now bytes) (now w) lay stretch g (value .0) at ⌝ }
+    ensures { λ r. ⌜ Generates (λ ns s. only (object-equations (program (now (img .entry)) (now (bytes .entry))) ns (value .0) (item-at (now (img .entry)) at)) ns s) (now (img .entry)) (now (bytes .entry)) (now (w .entry)) (now (w .exit)) lay stretch g r ⌝ }
 {
-    if img[at] != 3 {
+    if img[at] != tags::NAMED_KEY {
         return g;
     }
     let slot = slot_at(img, at + 1);
@@ -298,7 +310,7 @@ fn array_pattern(
     ensures { λ r. ⌜ Generates (λ ns s. only (destructure-equations (program (now (img .entry)) (now (bytes .entry))) ns 0 (items-at (now (img .entry)) (at + 4) (word (now (img .entry)) (at + 3)))) ns s) (now (img .entry)) (now (bytes .entry)) (now (w .entry)) (now (w .exit)) lay stretch g0 r ⌝ }
 {
     let n = img[at + 3];
-    let value = img[at + 2 + 3 * n as usize];
+    let value = IdentifierId(img[at + 2 + 3 * n as usize]);
     let mut g = g0;
     for k in 0..n - 1 {
         g = array_element(
@@ -333,7 +345,7 @@ fn object_pattern(
     ensures { λ r. ⌜ Generates (λ ns s. only (destructure-equations (program (now (img .entry)) (now (bytes .entry))) ns 1 (items-at (now (img .entry)) (at + 4) (word (now (img .entry)) (at + 3)))) ns s) (now (img .entry)) (now (bytes .entry)) (now (w .entry)) (now (w .exit)) lay stretch g0 r ⌝ }
 {
     let n = img[at + 3];
-    let value = img[at + 2 + 3 * n as usize];
+    let value = IdentifierId(img[at + 2 + 3 * n as usize]);
     let mut g = g0;
     for k in 0..n - 1 {
         g = object_property(
@@ -374,17 +386,17 @@ pub fn destructure(
 }
 
 // Logs the name of what is loaded, if it has one.
-fn log_name(img: &[u32], w: &mut [u32], g: Walk, id: u32, source: u32) -> Walk
-    requires { ⌜ Log-asked (now img) (now w) g source ⌝ }
-    ensures { λ r. ⌜ Logs-name (now (img .entry)) (now (w .entry)) (now (w .exit)) g id source r ⌝ }
+fn log_name(img: &[u32], w: &mut [u32], g: Walk, id: IdentifierId, source: IdentifierId) -> Walk
+    requires { ⌜ Log-asked (now img) (now w) g (source .0) ⌝ }
+    ensures { λ r. ⌜ Logs-name (now (img .entry)) (now (w .entry)) (now (w .exit)) g (id .0) (source .0) r ⌝ }
 {
-    let n = image::name_of(img, IdentifierId(source));
+    let n = image::name_of(img, source);
     if n == NONE {
         return g;
     }
     let log = g.log;
     let i = log as usize;
-    w[i] = id;
+    w[i] = id.0;
     w[i + 1] = n;
     let mut h = g;
     h.log = log + 2;
@@ -404,10 +416,12 @@ pub fn load_local(
     requires { ⌜ Ready-at (now img) (now bytes) (now w) lay stretch g at 1 ⌝ }
     ensures { λ r. ⌜ Generates-as LoadLocal (now (img .entry)) (now (bytes .entry)) (now (w .entry)) (now (w .exit)) lay stretch g at r ⌝ }
 {
-    let h = equal(w, lay, g, slot_at(img, at + 1), slot_at(img, at + 5));
+    let h = equal(w, lay, g, slot_at(img, at + 1), var_at(img, at + 5));
     let refused = h.refused;
     if refused != 0 {
         return h;
     }
-    log_name(img, w, h, img[at + 1], img[at + 5])
+    let id = IdentifierId(img[at + 1]);
+    let source = IdentifierId(img[at + 5]);
+    log_name(img, w, h, id, source)
 }

@@ -7,6 +7,8 @@ ghost use Rattle.image.specs.Ty.{written};
 ghost use Rattle.run_definition.specs.Tables.{made-types};
 ghost use Rattle.run_tables.specs.Standing.{Finish-asked, Finishes};
 ghost use Rattle.run_tables.specs.Writing.{counting, writing, table, Asks, Emits, Asks-row, Emits-row, Asks-bindings, Emits-bindings, Counts-bindings, Counts, Write-asked, Writes};
+use image::refusals;
+use image::type_kinds;
 use run_layout::Layout;
 use unifier_nodes::node::Node;
 use unifier_nodes::node::node_at;
@@ -106,17 +108,17 @@ fn write_type(w: &[u32], lo: u32, n: u32, t: &mut [u32], at: usize) -> usize
     ensures { λ r. ⌜ Emits writing (now (w .entry)) lo n (table (now (t .entry)) at) (table (now (t .exit)) r) ⌝ }
 {
     match node_at(w, lo, n) {
-        Node::Var(x) => put_two(t, at, 0, x.0),
-        Node::Primitive => put_one(t, at, 1),
-        Node::Poly => put_one(t, at, 2),
-        Node::ObjectMethod => put_one(t, at, 3),
-        Node::Object(s) => put_two(t, at, 4, s),
+        Node::Var(x) => put_two(t, at, type_kinds::VAR, x.0),
+        Node::Primitive => put_one(t, at, type_kinds::PRIMITIVE),
+        Node::Poly => put_one(t, at, type_kinds::POLY),
+        Node::ObjectMethod => put_one(t, at, type_kinds::OBJECT_METHOD),
+        Node::Object(s) => put_two(t, at, type_kinds::OBJECT, s),
         Node::Function(kind, s, ret) => {
             let next = put_two(t, at, kind, s);
             write_type(w, lo, ret, t, next)
         }
         Node::Phi(from, count) => {
-            let next = put_two(t, at, 7, count);
+            let next = put_two(t, at, type_kinds::PHI, count);
             write_list(w, lo, n, from, count, t, next)
         }
     }
@@ -153,7 +155,7 @@ fn write_made(slots: u32, made: u32, t: &mut [u32], at: usize) -> usize
     let mut next = at;
     let mut k = slots;
     while k < made {
-        next = put_two(t, next, 0, k);
+        next = put_two(t, next, type_kinds::VAR, k);
         k += 1;
     }
     next
@@ -185,7 +187,7 @@ fn write(w: &[u32], lay: Layout, made: u32, t: &mut [u32])
     write_bindings(w, lay.lo, made, t, all);
 }
 
-// The answer and the tables, or 14 with the length that these want.
+// The answer and the tables, or a refusal with the length that these want.
 pub fn finish(w: &[u32], lay: Layout, steps: u32, made: u32, t: &mut [u32]) -> Answer
     requires { ⌜ Finish-asked (now w) lay made ⌝ }
     ensures { λ r. ⌜ Finishes (now (w .entry)) lay made steps (now (t .entry)) (now (t .exit)) r ⌝ }
@@ -194,7 +196,7 @@ pub fn finish(w: &[u32], lay: Layout, steps: u32, made: u32, t: &mut [u32]) -> A
     let table_words = size.words;
     if table_words as usize > t.len() {
         return Answer {
-            number: 14,
+            number: refusals::TABLE_WORDS,
             steps,
             slots: 0,
             bindings: 0,

@@ -8,8 +8,12 @@ ghost use Rattle.run_definition.specs.Fitting.{Identifier-at};
 ghost use Rattle.run_walk.specs.Solving.{Equal-asked, Equates, Made-asked, Equates-made};
 use image::IdentifierId;
 use image::Table;
+use image::TypeId;
+use image::refusals;
 use run_layout::Layout;
+use run_layout::OWN_OBJECTS;
 use unifier::bind::unify;
+use unifier_nodes::node::NODE_WORDS;
 use unifier_nodes::node::put_node;
 use unifier_nodes::state::State;
 
@@ -62,16 +66,24 @@ pub fn spent(g: Walk) -> Walk
     ensures { λ r. ⌜ r ≡ record { left = g .left; top = g .top; refused = 13; next = g .next; log = g .log; at = g .at } ⌝ }
 {
     let mut h = g;
-    h.refused = 13;
+    h.refused = refusals::OUT_OF_STEPS;
     h
 }
 
 // The slot of the identifier at a position.
-pub fn slot_at(img: &[u32], at: usize) -> u32
+pub fn slot_at(img: &[u32], at: usize) -> TypeId
+    requires { ⌜ Laid (now img) × (at < length (now img)) × Identifier-at (now img) at ⌝ }
+    ensures { λ r. ⌜ r .0 ≡ cell Table.Identifiers (now (img .entry)) (word (now (img .entry)) at) 0 ⌝ }
+{
+    image::slot_of(img, IdentifierId(img[at]))
+}
+
+// The node of that slot's Var, which is the slot's number.
+pub fn var_at(img: &[u32], at: usize) -> u32
     requires { ⌜ Laid (now img) × (at < length (now img)) × Identifier-at (now img) at ⌝ }
     ensures { λ r. ⌜ r ≡ cell Table.Identifiers (now (img .entry)) (word (now (img .entry)) at) 0 ⌝ }
 {
-    let slot = image::slot_of(img, IdentifierId(img[at]));
+    let slot = slot_at(img, at);
     slot.0
 }
 
@@ -88,26 +100,34 @@ pub fn object_of(lay: Layout, shape: u32) -> u32
     requires { ⌜ lay .own + 6 + 3 * shape < 4294967296 ⌝ }
     ensures { λ r. ⌜ r ≡ lay .own + 6 + 3 * shape ⌝ }
 {
-    lay.own + 6 + 3 * shape
+    lay.own + OWN_OBJECTS + NODE_WORDS * shape
 }
 
-// The types of two nodes are made one.
-pub fn equal(w: &mut [u32], lay: Layout, g: Walk, a: u32, b: u32) -> Walk
-    requires { ⌜ (g .refused ≡ 0 → Equal-asked (now w) lay g a b) ⌝ }
-    ensures { λ r. ⌜ Equates (now (w .entry)) (now (w .exit)) lay g a b r ⌝ }
+// The types of a slot and of a node are made one.
+pub fn equal(w: &mut [u32], lay: Layout, g: Walk, slot: TypeId, b: u32) -> Walk
+    requires { ⌜ (g .refused ≡ 0 → Equal-asked (now w) lay g (slot .0) b) ⌝ }
+    ensures { λ r. ⌜ Equates (now (w .entry)) (now (w .exit)) lay g (slot .0) b r ⌝ }
 {
     let refused = g.refused;
     if refused != 0 {
         return g;
     }
-    let st = unify(w, lay.lo, state_of(g, g.top, lay.stack), a, b);
+    let st = unify(w, lay.lo, state_of(g, g.top, lay.stack), slot.0, b);
     walked(g, st)
 }
 
-// The types of a node and of one that is made for it are made one.
-pub fn equal_made(w: &mut [u32], lay: Layout, g: Walk, a: u32, kind: u32, x: u32, y: u32) -> Walk
-    requires { ⌜ Made-asked (now w) lay g a kind x y ⌝ }
-    ensures { λ r. ⌜ Equates-made (now (w .entry)) (now (w .exit)) lay g a kind x y r ⌝ }
+// The types of a slot and of a node that is made for it are made one.
+pub fn equal_made(
+    w: &mut [u32],
+    lay: Layout,
+    g: Walk,
+    slot: TypeId,
+    kind: u32,
+    x: u32,
+    y: u32,
+) -> Walk
+    requires { ⌜ Made-asked (now w) lay g (slot .0) kind x y ⌝ }
+    ensures { λ r. ⌜ Equates-made (now (w .entry)) (now (w .exit)) lay g (slot .0) kind x y r ⌝ }
 {
     let left = g.left;
     if left == 0 {
@@ -115,6 +135,12 @@ pub fn equal_made(w: &mut [u32], lay: Layout, g: Walk, a: u32, kind: u32, x: u32
     }
     let top = g.top;
     put_node(w, top, kind, x, y);
-    let st = unify(w, lay.lo, state_of(g, top + 3, lay.stack), a, top);
+    let st = unify(
+        w,
+        lay.lo,
+        state_of(g, top + NODE_WORDS, lay.stack),
+        slot.0,
+        top,
+    );
     walked(g, st)
 }

@@ -7,12 +7,12 @@ use Rattle.run_equations.proofs.alias.Tie as tie
 equal-requires : tie.Need-equal-requires
 equal-requires c κs =
     let p = c .before .before .before .before .before .pre in
-    λ z. equal-asks (p .solving) (lvalue-stands p (c .before .slot-at .ensures)) (first-stands p (omega arith) (c .slot-at2 .ensures))
+    λ z. equal-asks (p .solving) (lvalue-stands p (c .before .slot-at .ensures)) (first-stands p (omega arith) (c .var-at .ensures))
 
 returns : tie.Need-returns
 returns c =
     let p = c .before .before .before .before .before .before .before .before .pre in
-    equal-solves (p .solving) (lvalue-stands p (c .before .before .before .before .slot-at .ensures)) (first-stands p (omega arith) (c .before .before .before .slot-at2 .ensures)) (c .before .before .equal .ensures)
+    equal-solves (p .solving) (lvalue-stands p (c .before .before .before .before .slot-at .ensures)) (first-stands p (omega arith) (c .before .before .before .var-at .ensures)) (c .before .before .equal .ensures)
 
 pub alias-spec : {M : Type 1} → statement M
 alias-spec =

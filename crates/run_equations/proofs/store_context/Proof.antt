@@ -10,12 +10,12 @@ use Rattle.run_equations.proofs.store_context.Tie as tie
 equal-requires : tie.Need-equal-requires
 equal-requires c κs =
     let p = c .before .before .before .before .before .before .before .pre in
-    λ z. equal-asks (p .solving) (first-stands p (omega arith) (c .before .slot-at .ensures)) (second-stands p (omega arith) (c .slot-at2 .ensures))
+    λ z. equal-asks (p .solving) (first-stands p (omega arith) (c .before .slot-at .ensures)) (second-stands p (omega arith) (c .var-at .ensures))
 
 returns-2 : tie.Need-returns-2
 returns-2 c =
     let p = c .before .before .before .before .before .before .before .before .before .before .pre in
-    solves-same (sym (when-true (flagged _ _ (c .before .before .before .before .before .before .if1 .left)))) (equal-solves (p .solving) (first-stands p (omega arith) (c .before .before .before .before .slot-at .ensures)) (second-stands p (omega arith) (c .before .before .before .slot-at2 .ensures)) (c .before .before .equal .ensures))
+    solves-same (sym (when-true (flagged _ _ (c .before .before .before .before .before .before .if1 .left)))) (equal-solves (p .solving) (first-stands p (omega arith) (c .before .before .before .before .slot-at .ensures)) (second-stands p (omega arith) (c .before .before .before .var-at .ensures)) (c .before .before .equal .ensures))
 
 pub store-context-spec : {M : Type 1} → statement M
 store-context-spec =

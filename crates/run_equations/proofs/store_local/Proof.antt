@@ -7,21 +7,21 @@ use Rattle.run_equations.proofs.store_local.Tie as tie
 equal-requires : tie.Need-equal-requires
 equal-requires c κs =
     let p = c .before .before .before .before .before .pre in
-    λ z. equal-asks (p .solving) (lvalue-stands p (c .slot-at2 .ensures)) (second-stands p (omega arith) (c .before .before .slot-at .ensures))
+    λ z. equal-asks (p .solving) (lvalue-stands p (c .slot-at .ensures)) (second-stands p (omega arith) (c .before .before .var-at .ensures))
 
 equal-requires-2 : tie.Need-equal-requires-2
 equal-requires-2 c κs =
     let p = c .before .before .before .before .before .before .before .before .before .before .pre in
-    let v = second-stands p (omega arith) (c .before .before .before .before .before .before .before .slot-at .ensures) in
-    let f = equal-solves (p .solving) (lvalue-stands p (c .before .before .before .before .before .slot-at2 .ensures)) v (c .before .before .before .before .equal .ensures) in
-    equal-asks-on (p .solving) f (first-stands p (omega arith) (c .slot-at3 .ensures)) v
+    let v = second-stands p (omega arith) (c .before .before .before .before .before .before .before .var-at .ensures) in
+    let f = equal-solves (p .solving) (lvalue-stands p (c .before .before .before .before .before .slot-at .ensures)) v (c .before .before .before .before .equal .ensures) in
+    equal-asks-on (p .solving) f (first-stands p (omega arith) (c .slot-at2 .ensures)) v
 
 returns : tie.Need-returns
 returns c =
     let p = c .before .before .before .before .before .before .before .before .before .before .before .before .before .pre in
-    let v = second-stands p (omega arith) (c .before .before .before .before .before .before .before .before .before .before .slot-at .ensures) in
-    let f = equal-solves (p .solving) (lvalue-stands p (c .before .before .before .before .before .before .before .before .slot-at2 .ensures)) v (c .before .before .before .before .before .before .before .equal .ensures) in
-    equal-solves-on (p .solving) f (first-stands p (omega arith) (c .before .before .before .slot-at3 .ensures)) v (c .before .before .equal2 .ensures)
+    let v = second-stands p (omega arith) (c .before .before .before .before .before .before .before .before .before .before .var-at .ensures) in
+    let f = equal-solves (p .solving) (lvalue-stands p (c .before .before .before .before .before .before .before .before .slot-at .ensures)) v (c .before .before .before .before .before .before .before .equal .ensures) in
+    equal-solves-on (p .solving) f (first-stands p (omega arith) (c .before .before .before .slot-at2 .ensures)) v (c .before .before .equal2 .ensures)
 
 pub store-local-spec : {M : Type 1} → statement M
 store-local-spec =

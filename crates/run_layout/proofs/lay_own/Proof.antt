@@ -3,6 +3,7 @@ use native.Mathlib.Omega.{arith}
 use Prim.Native.Nat.{_+_, _-_, _≤_}
 use mathlib.Core.Path.{_∙_}
 use Rattle.run_layout.specs.Laying.{Lays}
+use Rattle.unifier_nodes.proofs.Words.{wrote, node-length}
 use Rattle.run_layout.proofs.LayingLaws.{Object-words, lays-none, lays-all, object-more, lays-own}
 use Rattle.run_layout.proofs.lay_own.Statement.{statement}
 use Rattle.run_layout.proofs.lay_own.Tie as tie
@@ -14,16 +15,16 @@ abbrev μ-loop : tie.MeasureT-loop
 μ-loop w₀ own s₀ w s = 8 - s
 
 add-put-node-2 : tie.Need-add-put-node-2 Inv-loop μ-loop
-add-put-node-2 c = omega (arith, c .before .before .before .before .before .before .before .before .before .before .before .before .pre, c .before .before .before .before .before .before .before .before .before .put-node .ensures .len, c .before .before .before .before .before .put-node2 .ensures .len, c .before .before .loop .inv .1 .kept .len)
+add-put-node-2 c = omega (arith, c .before .before .before .before .before .before .before .before .before .before .before .before .pre, node-length _ _ _ _ _ (c .before .before .before .before .before .before .before .before .before .put-node .ensures), node-length _ _ _ _ _ (c .before .before .before .before .before .put-node2 .ensures), c .before .before .loop .inv .1 .kept .len)
 
 mul-put-node : tie.Need-mul-put-node Inv-loop μ-loop
-mul-put-node c = omega (arith, c .before .before .before .before .before .before .before .before .before .before .before .before .pre, c .before .before .before .before .before .before .before .before .before .put-node .ensures .len, c .before .before .before .before .before .put-node2 .ensures .len, c .before .before .loop .inv .1 .kept .len)
+mul-put-node c = omega (arith, c .before .before .before .before .before .before .before .before .before .before .before .before .pre, node-length _ _ _ _ _ (c .before .before .before .before .before .before .before .before .before .put-node .ensures), node-length _ _ _ _ _ (c .before .before .before .before .before .put-node2 .ensures), c .before .before .loop .inv .1 .kept .len)
 
 add-put-node-3 : tie.Need-add-put-node-3 Inv-loop μ-loop
-add-put-node-3 c = omega (arith, c .before .before .before .before .before .before .before .before .before .before .before .before .pre, c .before .before .before .before .before .before .before .before .before .put-node .ensures .len, c .before .before .before .before .before .put-node2 .ensures .len, c .before .before .loop .inv .1 .kept .len)
+add-put-node-3 c = omega (arith, c .before .before .before .before .before .before .before .before .before .before .before .before .pre, node-length _ _ _ _ _ (c .before .before .before .before .before .before .before .before .before .put-node .ensures), node-length _ _ _ _ _ (c .before .before .before .before .before .put-node2 .ensures), c .before .before .loop .inv .1 .kept .len)
 
 put-node-requires-3 : tie.Need-put-node-requires-3 Inv-loop μ-loop
-put-node-requires-3 c κs = omega (arith, c .before .before .before .before .before .before .before .before .before .before .before .before .pre, c .before .before .before .before .before .before .before .before .before .put-node .ensures .len, c .before .before .before .before .before .put-node2 .ensures .len, c .before .before .loop .inv .1 .kept .len)
+put-node-requires-3 c κs = omega (arith, c .before .before .before .before .before .before .before .before .before .before .before .before .pre, node-length _ _ _ _ _ (c .before .before .before .before .before .before .before .before .before .put-node .ensures), node-length _ _ _ _ _ (c .before .before .before .before .before .put-node2 .ensures), c .before .before .loop .inv .1 .kept .len)
 
 pub lay-own-spec : {M : Type 1} → statement M
 lay-own-spec =
@@ -33,7 +34,7 @@ lay-own-spec =
     μ-loop
     (λ c κs. search needs)
     (λ c. omega (arith, c .before .before .before .before .before .before .pre))
-    (λ c κs. omega (arith, c .before .before .before .before .before .before .pre, c .before .before .before .put-node .ensures .len))
+    (λ c κs. omega (arith, c .before .before .before .before .before .before .pre, node-length _ _ _ _ _ (c .before .before .before .put-node .ensures)))
     (λ c. (omega arith, lays-none))
     add-put-node-2
     mul-put-node
@@ -41,6 +42,6 @@ lay-own-spec =
     put-node-requires-3
     (λ c. search needs)
     (λ c. search needs)
-    (λ c. (omega arith, object-more _ _ (c .before .before .before .before .before .loop .inv .1) (c .before .before .put-node3 .ensures) (omega arith)))
-    (λ c. c .before .loop .inv .1 .kept .len ∙ c .before .before .before .before .put-node2 .ensures .len ∙ c .before .before .before .before .before .before .before .before .put-node .ensures .len)
-    (λ c. lays-own (c .before .before .before .before .before .before .before .before .put-node .ensures) (c .before .before .before .before .put-node2 .ensures) (lays-all (c .before .loop .inv .1) (omega arith))))
+    (λ c. (omega arith, object-more _ _ (c .before .before .before .before .before .loop .inv .1) (wrote (omega arith) (c .before .before .put-node3 .ensures)) (omega arith)))
+    (λ c. c .before .loop .inv .1 .kept .len ∙ node-length _ _ _ _ _ (c .before .before .before .before .put-node2 .ensures) ∙ node-length _ _ _ _ _ (c .before .before .before .before .before .before .before .before .put-node .ensures))
+    (λ c. lays-own (wrote (omega arith) (c .before .before .before .before .before .before .before .before .put-node .ensures)) (wrote (omega arith) (c .before .before .before .before .put-node2 .ensures)) (lays-all (c .before .loop .inv .1) (omega arith))))

@@ -18,8 +18,8 @@ loop-again : tie.Need-loop-again Inv-loop μ-loop
 loop-again c = (
   omega arith,
   ⊎-elim
-      (λ p. rw (p .2) (words-store (c .before .before .before .loop .inv .1) _ (omega (arith, c .before .before .before .before .before .before .before .before .pre, c .before .before .before .loop .inv .1 .kept .len)) (λ l. p .1 .ensures)))
-      (λ p. rw (p .1) (words-skip (c .before .before .before .loop .inv .1) (λ l. absurd (omega arith))))
+      (λ p. rw (p .2) (words-store (c .before .before .before .before .loop .inv .1) _ (omega (arith, c .before .before .before .before .before .before .before .before .before .pre, c .before .before .before .before .loop .inv .1 .kept .len)) (λ l. p .1 .ensures)))
+      (λ p. rw (p .1) (words-skip (c .before .before .before .before .loop .inv .1) (λ l. absurd (omega arith))))
       (c .if1 .came),
 )
 
@@ -34,10 +34,10 @@ lay-places-spec =
     (λ c. (omega arith, words-none))
     (λ c. search needs)
     (λ c. search needs)
-    (λ c κs. record { laid = c .before .before .before .before .before .before .before .before .pre .laid; row = omega arith; column = omega arith })
-    (λ c. omega (arith, c .before .before .before .before .before .before .before .before .before .pre))
-    (λ c. omega (arith, c .before .before .before .before .before .before .before .before .before .pre))
-    (λ c. omega (arith, c .before .before .before .before .before .before .before .before .before .pre, c .before .before .before .before .loop .inv .1 .kept .len))
+    (λ c κs. record { laid = c .before .before .before .before .before .before .before .before .before .pre .laid; row = omega arith; column = omega arith })
+    (λ c. omega (arith, c .before .before .before .before .before .before .before .before .before .before .pre))
+    (λ c. omega (arith, c .before .before .before .before .before .before .before .before .before .before .pre))
+    (λ c. omega (arith, c .before .before .before .before .before .before .before .before .before .before .pre, c .before .before .before .before .before .loop .inv .1 .kept .len))
     (λ c. search needs)
     (λ c. search needs)
     loop-again

@@ -15,9 +15,9 @@ computed-load-spec =
     (tie.spec
     (λ c. let i = words-inside (c .before .before .before .pre) in omega arith)
     (λ c κs. lvalue-asked (c .before .before .before .pre))
+    (λ c. let i = words-inside (c .before .before .before .before .pre) in omega arith)
+    (λ c. let i = words-inside (c .before .before .before .before .pre) in omega arith)
     (λ c. let i = words-inside (c .before .before .before .before .before .pre) in omega arith)
-    (λ c. let i = words-inside (c .before .before .before .before .before .pre) in omega arith)
-    (λ c. let i = words-inside (c .before .before .before .before .before .before .pre) in omega arith)
     property-requires
     (λ c. c .before .before .property .ensures .keeps .len)
     returns)

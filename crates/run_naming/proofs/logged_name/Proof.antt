@@ -10,19 +10,19 @@ use Rattle.run_naming.proofs.logged_name.Statement.{statement}
 use Rattle.run_naming.proofs.logged_name.Tie as tie
 
 abbrev Inv-loop : tie.InvT-loop
-Inv-loop img bytes w from to id k₀ k = (k ≤ to) × ((ns : Names-log) → Logged img bytes w from to ns → Left-of img bytes w from k id ns)
+Inv-loop img bytes w from to id k₀ k = (k ≤ to) × ((ns : Names-log) → Logged img bytes w from to ns → Left-of img bytes w from k (id .0) ns)
 
 abbrev μ-loop : tie.MeasureT-loop
 μ-loop img bytes w from to id k₀ k = k
 
 shared-slice-read-name-bytes : tie.Need-shared-slice-read-name-bytes Inv-loop μ-loop
-shared-slice-read-name-bytes c = let p = c .before .before .before .before .before .before .before .before .pre in omega (arith, left-two (c .before .before .before .before .loop .inv .1 (p .names) (p .logged)) (c .before .before .before .loop-test .taken))
+shared-slice-read-name-bytes c = let p = c .before .before .before .before .before .before .before .before .before .pre in omega (arith, left-two (c .before .before .before .before .before .loop .inv .1 (p .names) (p .logged)) (c .before .before .before .before .loop-test .taken))
 
 name-bytes-requires : tie.Need-name-bytes-requires Inv-loop μ-loop
-name-bytes-requires c κs = let p = c .before .before .before .before .before .before .before .before .pre in (p .inside, left-number (c .before .before .before .before .loop .inv .1 (p .names) (p .logged)) (c .before .before .before .loop-test .taken))
+name-bytes-requires c κs = let p = c .before .before .before .before .before .before .before .before .before .pre in (p .inside, left-number (c .before .before .before .before .before .loop .inv .1 (p .names) (p .logged)) (c .before .before .before .before .loop-test .taken))
 
 returns : tie.Need-returns Inv-loop μ-loop
-returns c = record { is = λ ns l. c .name-bytes .ensures ∙ left-found (c .before .before .before .before .before .loop .inv .1 ns l) (c .before .before .before .before .loop-test .taken) (c .before .before .if1 .taken) }
+returns c = record { is = λ ns l. c .name-bytes .ensures ∙ left-found (c .before .before .before .before .before .before .loop .inv .1 ns l) (c .before .before .before .before .before .loop-test .taken) (c .before .before .if1 .taken) }
 
 pub logged-name-spec : {M : Type 1} → statement M
 logged-name-spec =
@@ -42,7 +42,7 @@ logged-name-spec =
     name-bytes-requires
     returns
     (λ c. search needs)
-    (λ c. (search needs, λ ns l. left-later (c .before .before .before .loop .inv .1 ns l) (c .before .before .loop-test .taken) (c .if1 .left)))
+    (λ c. (search needs, λ ns l. left-later (c .before .before .before .before .loop .inv .1 ns l) (c .before .before .before .loop-test .taken) (c .if1 .left)))
     (λ c. search needs)
     (λ c. search needs)
     (λ c. search needs)

@@ -24,5 +24,5 @@ property-spec =
     (λ c κs. omega (arith, own-fits (c .before .before .before .before .before .before .before .pre .ready .solving)))
     unify-property-requires
     (λ c κs. search needs)
-    (λ c. c .before .before .before .unify-property .ensures .keeps .frame .len)
+    (λ c. c .before .before .before .unify-property .ensures .binds .keeps .frame .len)
     returns)

@@ -20,9 +20,9 @@ property-load-spec =
     (λ c. let i = words-inside (c .before .before .before .before .pre .0) in omega arith)
     (λ c. let i = words-inside (c .before .before .before .before .before .pre .0) in omega arith)
     (λ c κs. search needs)
+    (λ c. let i = words-inside (c .before .before .before .before .before .before .pre .0) in omega arith)
+    (λ c. let i = words-inside (c .before .before .before .before .before .before .pre .0) in omega arith)
     (λ c. let i = words-inside (c .before .before .before .before .before .before .before .pre .0) in omega arith)
-    (λ c. let i = words-inside (c .before .before .before .before .before .before .before .pre .0) in omega arith)
-    (λ c. let i = words-inside (c .before .before .before .before .before .before .before .before .pre .0) in omega arith)
     property-requires
     (λ c. c .before .before .property .ensures .keeps .len)
     returns)

@@ -9,10 +9,10 @@ property-requires : tie.Need-property-requires
 property-requires c κs = store-asked (c .before .before .before .before .before .before .before .before .pre .0) (c .before .before .before .before .before .before .before .before .pre .1) (c .before .before .before .before .if1 .left) (c .before .before .literal .ensures)
 
 add-h : tie.Need-add-h
-add-h c = omega (arith, next-fits (c .before .before .before .before .before .before .before .before .before .before .before .pre .0 .ready .solving) (c .before .before .before .before .before .before .before .if1 .left))
+add-h c = omega (arith, next-fits (c .before .before .before .before .before .before .before .before .before .before .before .before .pre .0 .ready .solving) (c .before .before .before .before .before .before .before .before .if1 .left))
 
 returns-2 : tie.Need-returns-2
-returns-2 c = store-generates (c .before .before .before .before .before .before .before .before .before .before .before .pre .0) (c .before .before .before .before .before .before .before .before .before .before .before .pre .1) (c .before .before .before .before .before .literal .ensures) (c .before .before .property .ensures)
+returns-2 c = store-generates (c .before .before .before .before .before .before .before .before .before .before .before .before .pre .0) (c .before .before .before .before .before .before .before .before .before .before .before .before .pre .1) (c .before .before .before .before .before .before .literal .ensures) (c .before .before .before .property .ensures)
 
 pub property-store-spec : {M : Type 1} → statement M
 property-store-spec =
@@ -24,10 +24,10 @@ property-store-spec =
     (λ c. let i = words-inside (c .before .before .before .before .pre .0) in omega arith)
     (λ c. let i = words-inside (c .before .before .before .before .before .pre .0) in omega arith)
     (λ c κs. search needs)
+    (λ c. let i = words-inside (c .before .before .before .before .before .before .pre .0) in omega arith)
+    (λ c. let i = words-inside (c .before .before .before .before .before .before .pre .0) in omega arith)
     (λ c. let i = words-inside (c .before .before .before .before .before .before .before .pre .0) in omega arith)
-    (λ c. let i = words-inside (c .before .before .before .before .before .before .before .pre .0) in omega arith)
-    (λ c. let i = words-inside (c .before .before .before .before .before .before .before .before .pre .0) in omega arith)
     property-requires
     add-h
-    (λ c. c .before .before .property .ensures .keeps .len)
+    (λ c. c .before .before .before .property .ensures .keeps .len)
     returns-2)

@@ -1,6 +1,7 @@
 use native.Mathlib.Omega.{arith}
 use borrow.Author.Needs.{needs}
 use mathlib.Core.Path.{_∙_}
+use Rattle.unifier_nodes.proofs.Words.{wrote, node-length}
 use Rattle.run_walk.proofs.Equating.{made-spent, made-room, made-small, made-calls, equates-made}
 use Rattle.run_walk.proofs.equal_made.Statement.{statement}
 use Rattle.run_walk.proofs.equal_made.Tie as tie
@@ -14,16 +15,18 @@ add-state-of c = let d = c .before .before .before .before .before in omega (ari
 unify-requires : tie.Need-unify-requires
 unify-requires c κs =
     let d = c .before .before .before .before .before .before in
-    made-calls (d .before .before .pre) (d .if1 .left) (c .before .before .before .before .put-node .ensures) (c .state-of .ensures)
+    let m = made-room (d .before .before .pre) (d .if1 .left) in
+    made-calls (d .before .before .pre) (d .if1 .left) (wrote (omega arith) (c .before .before .before .before .put-node .ensures)) (c .state-of .ensures)
 
 same-length : tie.Need-same-length
 same-length c =
-    c .before .before .before .unify .ensures .binds .keeps .frame .len ∙ c .before .before .before .before .before .before .before .before .put-node .ensures .len
+    c .before .before .before .unify .ensures .binds .keeps .frame .len ∙ node-length _ _ _ _ _ (c .before .before .before .before .before .before .before .before .put-node .ensures)
 
 returns-2 : tie.Need-returns-2
 returns-2 c =
     let d = c .before .before .before .before .before .before .before .before in
-    equates-made (d .before .before .before .before .pre) (d .before .before .if1 .left) (d .put-node .ensures) (c .before .before .before .before .state-of .ensures) (c .before .before .before .unify .ensures) (c .walked .ensures)
+    let m = made-room (d .before .before .before .before .pre) (d .before .before .if1 .left) in
+    equates-made (d .before .before .before .before .pre) (d .before .before .if1 .left) (wrote (omega arith) (d .put-node .ensures)) (c .before .before .before .before .state-of .ensures) (c .before .before .before .unify .ensures) (c .walked .ensures)
 
 pub equal-made-spec : {M : Type 1} → statement M
 equal-made-spec =
