@@ -78,18 +78,13 @@ struct Text {
 }
 
 impl Text {
-    /// A published file, under its own path or under the flat name that the index gives it.
+    /// A published file.
     fn read(&self, path: &str) -> String {
-        let flat = format!("src--{}.txt", path.replace('/', "--"));
-        let found = [self.folder.join(path), self.folder.join(flat)].into_iter().find(|file| file.is_file());
-        let Some(file) = found else {
-            panic!(
-                "no {path} in {}: set RUST_TEXT to the folder of the published source",
-                self.folder.display()
-            );
-        };
+        let file = self.folder.join(path);
         println!("cargo:rerun-if-changed={}", file.display());
-        fs::read_to_string(&file).expect("the published text")
+        fs::read_to_string(&file).unwrap_or_else(|error| {
+            panic!("{}: {error}: set RUST_TEXT to the folder of the published source", file.display())
+        })
     }
 }
 

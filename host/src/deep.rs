@@ -29,6 +29,7 @@ pub fn deep() -> Vec<Case> {
     add("function types in each other, unified", two_towers(5));
     add("phis in each other under try_resolve_type", nests(4));
     add("functions in each other", functions(4_360));
+    add("copies of phis under get, in functions in each other", copied_nests(1_200, 26, 1_500, 3_712));
     cases
 }
 
@@ -100,6 +101,14 @@ impl Deep {
             variable = next;
         }
         first
+    }
+
+    /// What stands in the block is in the innermost of so many functions.
+    fn nest(&mut self, functions: u32) {
+        let lvalue = self.variable();
+        for number in 1..functions {
+            self.image.body(Body::of(0, vec![Instruction::naming(lvalue, number)]));
+        }
     }
 
     fn finish(mut self) -> Image {
@@ -177,9 +186,35 @@ fn nests(count: u32) -> Image {
 
 fn functions(count: u32) -> Image {
     let mut deep = Deep::new();
-    let lvalue = deep.variable();
-    for number in 1..count {
-        deep.image.body(Body::of(0, vec![Instruction::naming(lvalue, number)]));
+    deep.nest(count);
+    deep.finish()
+}
+
+/// The most stack that is known: so many levels of phis stand in the image once, with a variable at their end whose phi
+/// has all of the variables that are bound to them. Each of these comes to itself there, so that `try_resolve_type`
+/// makes the levels anew without it, with the next variable at their end. Then function types lead to the first.
+fn copied_nests(levels: u32, copies: u32, towers: u32, functions: u32) -> Image {
+    let mut deep = Deep::new();
+    deep.nest(functions);
+    let object = deep.image.object(NONE);
+    let shared = deep.variable();
+    let bound: Vec<u32> = (0..copies).map(|_| deep.variable()).collect();
+    deep.block.phis.push((shared, bound.clone()));
+    let mut nest = deep.image.var(shared);
+    for _ in 0..levels {
+        nest = deep.image.phi(&[nest]);
     }
+    for &variable in &bound {
+        let own = deep.image.var(variable);
+        let phi = deep.image.phi(&[deep.primitive, object, own, nest]);
+        deep.load(variable, phi);
+    }
+    let mut tower = deep.image.var(bound[0]);
+    for _ in 0..towers {
+        tower = deep.image.function(NONE, tower);
+    }
+    let phi = deep.image.phi(&[tower, deep.primitive]);
+    let last = deep.variable();
+    deep.load(last, phi);
     deep.finish()
 }

@@ -9,18 +9,24 @@
 //! image.body(screen, Body::other(out).block(Block::new().primitive(x).returns(x).take()));
 //! let image = image.finish().expect("a body for each function");
 //! let tables = infer_types(&image.words, &image.names, 1_024).expect("types");
-//! assert_eq!(tables.slot(1).to_string(), "primitive");
+//! assert_eq!(tables.of(out).to_string(), "primitive");
 //! ```
 //!
-//! `infer_types` lends what the library needs. Who runs many images lends work and table words himself, to
-//! `infer_types_into`.
+//! `infer_types` lends what the library needs, and a `Runner` does so for many images; `infer_types_into` takes the
+//! words that a host lends itself.
 
+mod inferred;
 mod refusal;
+mod runner;
+mod stack;
 mod tables;
 
 pub use infer_image::*;
+pub use inferred::{Inferred, Operands, TypeKind};
 pub use refusal::{Fault, Refusal};
-pub use tables::{Inferred, Tables};
+pub use runner::Runner;
+pub use stack::stack_bytes;
+pub use tables::Tables;
 
 /// The most words of an image, name bytes and steps.
 pub const LIMIT: usize = 65_536;
@@ -34,6 +40,11 @@ pub struct Answer {
     pub slots: u32,
     pub bindings: u32,
     pub table_words: u32,
+}
+
+impl Answer {
+    /// The number of a run that succeeded.
+    pub const DONE: u32 = 0;
 }
 
 mod linked {
@@ -66,11 +77,11 @@ mod linked {
 
 /// The work words that a call needs: 8 for each word of the image and each step of the budget.
 pub fn work_words(image_words: usize, budget: u32) -> usize {
-    8 * (image_words + budget as usize)
+    image_words.saturating_add(budget as usize).saturating_mul(8)
 }
 
 /// The check that every run begins with, alone: 0, or the number of the first refusal from 1 to 10 that is due if so
-/// many work words are lent. Nothing is written.
+/// many work words are lent. Nothing is written. It takes up to 832 KiB of stack.
 pub fn image_check(image: &[u32], names: &[u8], budget: u32, work_words: usize) -> u32 {
     // SAFETY: each pointer comes with its slice's length; the library reads both slices and keeps neither.
     unsafe {
@@ -78,8 +89,13 @@ pub fn image_check(image: &[u32], names: &[u8], budget: u32, work_words: usize) 
     }
 }
 
-/// One call of the library with lent work and table words. Words of the tables past those written keep what they
-/// held; what the work words hold afterwards is the library's.
+/// One call of the library with lent work and table words, on the stack of the caller.
+///
+/// Words of the tables past those written keep what they held; a refusal writes none. The work words are all zero
+/// afterwards, or untouched in the refusals 1 to 10; what they hold before doesn't matter.
+///
+/// The run recurses: the stack has to have `stack_bytes(image, budget)` left, or the process ends. 1 MiB is enough for
+/// 8,192 words and 4,096 steps, 10 MiB for every image. `infer_types` and `Runner` see to it themselves.
 pub fn infer_types_into(
     image: &[u32],
     names: &[u8],
@@ -104,26 +120,11 @@ pub fn infer_types_into(
     }
 }
 
-/// The types of an image's slots and the bindings of their variables, in at most so many steps.
-///
-/// Lends work words as needed, and table words: first as many as most images need, then as many as are wanted. What
-/// is refused by its size alone gets no memory.
+/// The types of an image's slots and the bindings of their variables, in at most so many steps: one run of a new
+/// `Runner`, which says what is lent. It takes at most 1 MiB of the caller's stack, and panics if the system gives no
+/// thread for a deeper one.
 pub fn infer_types(image: &[u32], names: &[u8], budget: u32) -> Result<Tables, Refusal> {
-    let fits = image.len() <= LIMIT && budget as usize <= LIMIT;
-    let mut work = vec![0; if fits { work_words(image.len(), budget) } else { 0 }];
-    let mut words = vec![0; if fits { 4 * image.len() } else { 0 }];
-    loop {
-        let answer = infer_types_into(image, names, budget, &mut work, &mut words);
-        match answer.number {
-            0 => {
-                words.truncate(answer.table_words as usize);
-                return Ok(Tables::new(answer, words));
-            }
-            14 if answer.table_words as usize > words.len() => {
-                words = vec![0; answer.table_words as usize];
-                work.fill(0);
-            }
-            number => return Err(Refusal { number, steps: answer.steps }),
-        }
-    }
+    let mut runner = Runner::new();
+    runner.infer_types(image, names, budget)?;
+    Ok(runner.into_tables())
 }

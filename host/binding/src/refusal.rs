@@ -1,5 +1,6 @@
 //! Refusals: a number, and a sentence of help.
 
+use crate::Answer;
 use std::fmt;
 
 /// Why there are no tables.
@@ -8,6 +9,8 @@ pub struct Refusal {
     pub number: u32,
     /// The steps that were taken; 0 for 1 to 10.
     pub steps: u32,
+    /// The table words that were wanted; 0 for all but 14.
+    pub table_words: u32,
 }
 
 /// Who can mend it.
@@ -19,10 +22,30 @@ pub enum Fault {
 }
 
 impl Refusal {
+    pub const IMAGE_WORDS: u32 = 1;
+    pub const NAME_BYTES: u32 = 2;
+    pub const BUDGET: u32 = 3;
+    pub const WORK_WORDS: u32 = 4;
+    pub const HEADER: u32 = 5;
+    pub const REFERENCES: u32 = 6;
+    pub const TYPES: u32 = 7;
+    pub const SHAPES: u32 = 8;
+    pub const BODIES: u32 = 9;
+    pub const NESTING: u32 = 10;
+    pub const EMPTY_PHI: u32 = 11;
+    pub const CYCLE: u32 = 12;
+    pub const OUT_OF_STEPS: u32 = 13;
+    pub const TABLE_WORDS: u32 = 14;
+
+    pub(crate) fn new(answer: Answer) -> Refusal {
+        Refusal { number: answer.number, steps: answer.steps, table_words: answer.table_words }
+    }
+
+    /// As document 01 groups them; 13 is the caller's too, who may allow more steps.
     pub fn fault(&self) -> Fault {
         match self.number {
-            1..=4 | 14 => Fault::Caller,
-            11..=13 => Fault::ScreenAuthor,
+            Self::IMAGE_WORDS..=Self::WORK_WORDS | Self::TABLE_WORDS => Fault::Caller,
+            Self::EMPTY_PHI..=Self::OUT_OF_STEPS => Fault::ScreenAuthor,
             _ => Fault::ImageWriter,
         }
     }
@@ -30,20 +53,42 @@ impl Refusal {
     /// What it means and what to do, in a sentence.
     pub fn help(&self) -> &'static str {
         match self.number {
-            1 => "The image has under 20 or over 65,536 words: split the screen, or look at what was lent.",
-            2 => "There are over 65,536 name bytes: split the screen, or look at what was lent.",
-            3 => "The budget is over 65,536: ask for fewer steps.",
-            4 => "Fewer work words are lent than 8 for each image word and each step of the budget: lend more.",
-            5 => "The header is wrong (version, options, no function, length, or a table outside the image): mend the image writer.",
-            6 => "A number is outside its table, a name outside the name bytes or a body outside the image: mend the image writer.",
-            7 => "A row of the type table breaks a rule: mend the image writer.",
-            8 => "A shape is missing or its row broken, or two of its properties have one name: mend the image writer.",
-            9 => "A body has a word that isn't allowed where it stands, ends early, has words over or shares one: mend the image writer.",
-            10 => "A function is named by one of its own or a larger number, or twice: announce outer functions first, and name each once.",
-            11 => "A value comes from nowhere (a phi without operands): look at the screen's unreachable code.",
-            12 => "A value would contain itself: look for a function that returns or calls itself through a variable.",
-            13 => "The budget's steps are used up: allow more, or split the screen.",
-            14 => "The tables are longer than the lent words: lend as many as the answer wants.",
+            Self::IMAGE_WORDS => {
+                "The image has under 20 or over 65,536 words: split the screen, or look at what was lent."
+            }
+            Self::NAME_BYTES => {
+                "There are over 65,536 name bytes: split the screen, or look at what was lent."
+            }
+            Self::BUDGET => "The budget is over 65,536: ask for fewer steps.",
+            Self::WORK_WORDS => {
+                "Fewer work words are lent than 8 for each image word and each step of the budget: lend more."
+            }
+            Self::HEADER => {
+                "The header is wrong (version, options, no function, length, or a table outside the image): mend the image writer."
+            }
+            Self::REFERENCES => {
+                "A number is outside its table, a name outside the name bytes or a body outside the image: mend the image writer."
+            }
+            Self::TYPES => "A row of the type table breaks a rule: mend the image writer.",
+            Self::SHAPES => {
+                "A shape is missing or its row broken, or two of its properties have one name: mend the image writer."
+            }
+            Self::BODIES => {
+                "A body has a word that isn't allowed where it stands, ends early, has words over or shares one: mend the image writer."
+            }
+            Self::NESTING => {
+                "A function is named by one of its own or a larger number, or twice: announce outer functions first, and name each once."
+            }
+            Self::EMPTY_PHI => {
+                "A value comes from nowhere (a phi without operands): look at the screen's unreachable code."
+            }
+            Self::CYCLE => {
+                "A value would contain itself: look for a function that returns or calls itself through a variable."
+            }
+            Self::OUT_OF_STEPS => "The budget's steps are used up: allow more, or split the screen.",
+            Self::TABLE_WORDS => {
+                "The tables are longer than the words that may be lent: lend as many as are wanted, or let a Runner do so (table_words_at_most)."
+            }
             _ => "This number is unknown: the library is newer than this crate.",
         }
     }

@@ -1,47 +1,49 @@
 //! The tables of a run, read.
 
+use crate::inferred::{type_words, Inferred};
 use crate::Answer;
-use infer_image::parts::NONE;
+use infer_image::parts::Table;
+use infer_image::{Identifier, Slot};
 use std::fmt;
+use std::ops::Range;
 
 /// The slots' types and the variables' bindings.
-#[derive(Clone, Debug, PartialEq)]
+///
+/// Slots and identifiers are those of the image that was run. One that this image doesn't have panics, as an index past
+/// the end does; one of another image that is in range can't be told from its own.
+#[derive(Clone, Debug, Default, PartialEq)]
 pub struct Tables {
     /// The steps that the run took.
     pub steps: u32,
-    words: Vec<u32>,
-    /// Where each slot's type starts.
-    slots: Vec<usize>,
-    /// Each bound slot, and where its binding starts; slots ascending.
-    bindings: Vec<(u32, usize)>,
-}
-
-/// A type in the tables; a shape is its number.
-#[derive(Clone, Debug, PartialEq)]
-pub enum Inferred {
-    Var(u32),
-    Primitive,
-    Poly,
-    ObjectMethod,
-    Object { shape: Option<u32> },
-    Function { shape: Option<u32>, constructor: bool, returns: Box<Inferred> },
-    Phi(Vec<Inferred>),
+    pub(crate) words: Vec<u32>,
+    /// Where each slot's type ends; the next one's starts there.
+    slot_ends: Vec<usize>,
+    /// Each bound slot, ascending, and where its binding stands.
+    bindings: Vec<(Slot, Range<usize>)>,
+    /// The slot of each identifier.
+    identifier_slots: Vec<Slot>,
 }
 
 impl Tables {
-    pub(crate) fn new(answer: Answer, words: Vec<u32>) -> Tables {
+    /// Reads what stands in the words: the tables that this answer says, of an image that passed the check.
+    pub(crate) fn read(&mut self, answer: Answer, image: &[u32]) {
+        self.steps = answer.steps;
+        self.words.truncate(answer.table_words as usize);
         let mut at = 0;
-        let mut slots = vec![];
+        self.slot_ends.clear();
         for _ in 0..answer.slots {
-            slots.push(at);
-            at = end(&words, at);
+            at += type_words(&self.words[at..]);
+            self.slot_ends.push(at);
         }
-        let mut bindings = vec![];
+        self.bindings.clear();
         for _ in 0..answer.bindings {
-            bindings.push((words[at], at + 1));
-            at = end(&words, at + 1);
+            let slot = Slot::from_number(self.words[at]);
+            let end = at + 1 + type_words(&self.words[at + 1..]);
+            self.bindings.push((slot, at + 1..end));
+            at = end;
         }
-        Tables { steps: answer.steps, words, slots, bindings }
+        self.identifier_slots.clear();
+        self.identifier_slots.extend(identifier_slots(image));
     }
 
     /// The words, as the library wrote them.
@@ -49,111 +51,73 @@ impl Tables {
         &self.words
     }
 
+    /// The type of an identifier: that of its slot. Panics if there is no such identifier.
+    pub fn of(&self, identifier: Identifier) -> Inferred<'_> {
+        self.slot(self.slot_of(identifier))
+    }
+
+    /// The slot of an identifier. Panics if there is no such identifier.
+    pub fn slot_of(&self, identifier: Identifier) -> Slot {
+        self.identifier_slots[identifier.number() as usize]
+    }
+
     /// The slots: the image's, then those that the run made.
     pub fn slot_count(&self) -> usize {
-        self.slots.len()
+        self.slot_ends.len()
     }
 
     /// The type of a slot. Panics if there is no such slot.
-    pub fn slot(&self, number: u32) -> Inferred {
-        read(&self.words, self.slots[number as usize])
+    pub fn slot(&self, slot: Slot) -> Inferred<'_> {
+        let number = slot.number() as usize;
+        let start = if number == 0 { 0 } else { self.slot_ends[number - 1] };
+        Inferred::new(&self.words[start..self.slot_ends[number]])
+    }
+
+    /// Slots and their types, ascending.
+    pub fn slots(&self) -> impl Iterator<Item = (Slot, Inferred<'_>)> {
+        (0..self.slot_count() as u32).map(Slot::from_number).map(|slot| (slot, self.slot(slot)))
     }
 
     pub fn binding_count(&self) -> usize {
         self.bindings.len()
     }
 
-    /// What a slot's variable is bound to.
-    pub fn binding(&self, slot: u32) -> Option<Inferred> {
+    /// What a slot's variable is bound to, if it is. Panics if there is no such slot.
+    pub fn binding(&self, slot: Slot) -> Option<Inferred<'_>> {
+        assert!(
+            (slot.number() as usize) < self.slot_count(),
+            "slot {} of {}",
+            slot.number(),
+            self.slot_count()
+        );
         let at = self.bindings.binary_search_by_key(&slot, |binding| binding.0).ok()?;
-        Some(read(&self.words, self.bindings[at].1))
+        Some(self.type_at(&self.bindings[at].1))
     }
 
-    /// Slots and bindings, slots ascending.
-    pub fn bindings(&self) -> impl Iterator<Item = (u32, Inferred)> + '_ {
-        self.bindings.iter().map(|&(slot, at)| (slot, read(&self.words, at)))
+    /// Bound slots and what they are bound to, slots ascending.
+    pub fn bindings(&self) -> impl Iterator<Item = (Slot, Inferred<'_>)> {
+        self.bindings.iter().map(|(slot, range)| (*slot, self.type_at(range)))
+    }
+
+    fn type_at(&self, range: &Range<usize>) -> Inferred<'_> {
+        Inferred::new(&self.words[range.clone()])
     }
 }
 
-/// Where the type ends that starts there.
-fn end(words: &[u32], mut at: usize) -> usize {
-    let mut pending = 1;
-    while pending > 0 {
-        pending -= 1;
-        match words[at] {
-            1..=3 => at += 1,
-            0 | 4 => at += 2,
-            5 | 6 => {
-                at += 2;
-                pending += 1;
-            }
-            _ => {
-                pending += words[at + 1] as usize;
-                at += 2;
-            }
-        }
-    }
-    at
-}
-
-/// The type that starts there: from its last word to its first, so that nesting needs no recursion.
-fn read(words: &[u32], start: usize) -> Inferred {
-    let mut starts = vec![];
-    let (mut at, last) = (start, end(words, start));
-    while at < last {
-        starts.push(at);
-        at += if (1..=3).contains(&words[at]) { 1 } else { 2 };
-    }
-    let mut read: Vec<Inferred> = vec![];
-    for &at in starts.iter().rev() {
-        let shape = || Some(words[at + 1]).filter(|&shape| shape != NONE);
-        let one = match words[at] {
-            0 => Inferred::Var(words[at + 1]),
-            1 => Inferred::Primitive,
-            2 => Inferred::Poly,
-            3 => Inferred::ObjectMethod,
-            4 => Inferred::Object { shape: shape() },
-            kind @ (5 | 6) => {
-                let returns = Box::new(read.pop().expect("the return type"));
-                Inferred::Function { shape: shape(), constructor: kind == 6, returns }
-            }
-            _ => {
-                let operands = read.len() - words[at + 1] as usize;
-                Inferred::Phi(read.drain(operands..).rev().collect())
-            }
-        };
-        read.push(one);
-    }
-    read.pop().expect("one type")
-}
-
-impl fmt::Display for Inferred {
-    fn fmt(&self, f: &mut fmt::Formatter<'_>) -> fmt::Result {
-        let named = |shape: &Option<u32>| shape.map_or("none".to_string(), |shape| shape.to_string());
-        match self {
-            Inferred::Var(slot) => write!(f, "var {slot}"),
-            Inferred::Primitive => write!(f, "primitive"),
-            Inferred::Poly => write!(f, "poly"),
-            Inferred::ObjectMethod => write!(f, "method"),
-            Inferred::Object { shape } => write!(f, "object {}", named(shape)),
-            Inferred::Function { shape, constructor, returns } => {
-                let word = if *constructor { "constructor" } else { "function" };
-                write!(f, "{word} {} {returns}", named(shape))
-            }
-            Inferred::Phi(operands) => {
-                write!(f, "phi {}", operands.len())?;
-                operands.iter().try_for_each(|operand| write!(f, " {operand}"))
-            }
-        }
-    }
+/// The first column of the identifiers' table.
+fn identifier_slots(image: &[u32]) -> impl Iterator<Item = Slot> + '_ {
+    let count = image[Table::Identifiers.count_at()] as usize;
+    let start = image[Table::Identifiers.offset_at()] as usize;
+    let rows = image[start..].chunks_exact(Table::Identifiers.width()).take(count);
+    rows.map(|row| Slot::from_number(row[0]))
 }
 
 impl fmt::Display for Tables {
-    /// A line for each slot and each binding.
+    /// A line for each slot and each binding, as the program `infer_main` prints them.
     fn fmt(&self, f: &mut fmt::Formatter<'_>) -> fmt::Result {
-        for slot in 0..self.slot_count() as u32 {
-            writeln!(f, "slot {slot} {}", self.slot(slot))?;
+        for (slot, of) in self.slots() {
+            writeln!(f, "slot {} {of}", slot.number())?;
         }
-        self.bindings().try_for_each(|(slot, bound)| writeln!(f, "bind {slot} {bound}"))
+        self.bindings().try_for_each(|(slot, bound)| writeln!(f, "bind {} {bound}", slot.number()))
     }
 }

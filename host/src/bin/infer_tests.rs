@@ -8,10 +8,10 @@ use host::image::{Case, Input};
 use host::lent::{Memory, Side, Words};
 use host::report::{fail, row};
 use host::{answers, corpus, deep, report};
-use infer_types::{infer_types_into, Answer, LIMIT};
+use infer_types::{infer_types, infer_types_into, Answer, Refusal, Runner, Tables, LIMIT};
 use std::io::Write;
-use std::slice;
 use std::time::Instant;
+use std::{slice, thread};
 
 const MOST_WORK: usize = 8 * 2 * LIMIT + 1_000_000;
 const MOST_TABLES: usize = 1_000_000;
@@ -19,8 +19,13 @@ const MOST_TABLES: usize = 1_000_000;
 const HELD: [u32; 2] = [0xA5A5_A5A5, 0x5A5A_5A5A];
 /// Words lent beyond those that are asked for, in some of the runs.
 const MORE: usize = 1_000;
-/// The stack that every test runs on.
-const STACK: usize = 8 << 20;
+/// The stack of a test that calls the library directly, which is enough for every image.
+const STACK: usize = 10 << 20;
+/// The stack of a test that calls it through the binding's safe functions: what Rust gives a thread by default.
+const DEFAULT_STACK: usize = 2 << 20;
+
+/// The corpus files, which stand beside their answers.
+const CORPUS: [&str; 4] = ["rows", "small", "large", "edges"];
 
 struct Tests {
     image: Memory,
@@ -108,16 +113,23 @@ fn answered(cases: Vec<Case>, folder: &str, name: &str) -> Vec<(Case, Expected)>
     cases.into_iter().zip(expected).collect()
 }
 
+fn corpus_answered(folder: &str, name: &str) -> Vec<(Case, Expected)> {
+    answered(corpus::read(name, &read(&format!("{folder}/{name}.corpus"))), folder, name)
+}
+
+fn deep_answered(folder: &str) -> Vec<(Case, Expected)> {
+    answered(deep::deep(), folder, "deep")
+}
+
 fn run_corpus(tests: &mut Tests, folder: &str, name: &str) {
-    let cases = corpus::read(name, &read(&format!("{folder}/{name}.corpus")));
-    for (case, expected) in answered(cases, folder, name) {
+    for (case, expected) in corpus_answered(folder, name) {
         tests.compare(&case, expected);
     }
     tests.part(name);
 }
 
 fn run_deep(tests: &mut Tests, folder: &str) {
-    for (case, expected) in answered(deep::deep(), folder, "deep") {
+    for (case, expected) in deep_answered(folder) {
         // Said before the run: a stack that is too small ends the program.
         print!("  {}:", case.name);
         _ = std::io::stdout().flush();
@@ -132,7 +144,7 @@ fn run_deep(tests: &mut Tests, folder: &str) {
 fn run_all(folder: &str) {
     let mut tests = Tests::new();
     println!("{:<10}{}", "answer", row(&std::array::from_fn::<u64, 15, _>(|number| number as u64)));
-    for name in ["rows", "small", "large", "edges"] {
+    for name in CORPUS {
         run_corpus(&mut tests, folder, name);
     }
     run_deep(&mut tests, folder);
@@ -141,7 +153,54 @@ fn run_all(folder: &str) {
         println!("FAILED: no run with answer {number}");
         std::process::exit(1);
     }
-    println!("infer_tests: all passed");
+}
+
+/// Every stored input through the plain function and through one Runner: the stored answer and tables, whatever ran
+/// before. Both lend work words enough, so that inputs that are stored with too few are left out.
+fn run_safe(folder: &str) {
+    let inputs = CORPUS.iter().flat_map(|name| corpus_answered(folder, name)).chain(deep_answered(folder));
+    let mut runner = Runner::new();
+    let mut count = 0;
+    for (case, expected) in inputs.filter(|one| one.1.answer.number != Refusal::WORK_WORDS) {
+        let Input { image, names, budget, .. } = &case.input;
+        report::start(&case);
+        let once = infer_types(image, names, *budget);
+        compare_safe(&case, once.as_ref().map_err(|&refusal| refusal), expected);
+        compare_safe(&case, runner.infer_types(image, names, *budget), expected);
+        count += 1;
+    }
+    println!("{count} inputs through infer_types and a Runner, on {DEFAULT_STACK} bytes of stack");
+}
+
+fn compare_safe(case: &Case, result: Result<&Tables, Refusal>, expected: Expected) {
+    let found = match result {
+        Ok(tables) => Expected { answer: answer_of(tables), sum: sum(tables.words()) },
+        Err(Refusal { number, steps, table_words }) => {
+            Expected { answer: Answer { number, steps, table_words, ..Answer::default() }, sum: sum(&[]) }
+        }
+    };
+    if found != expected {
+        fail(&format!("{found:?} through the binding, not {expected:?}"), case);
+    }
+}
+
+fn answer_of(tables: &Tables) -> Answer {
+    Answer {
+        number: Answer::DONE,
+        steps: tables.steps,
+        slots: tables.slot_count() as u32,
+        bindings: tables.binding_count() as u32,
+        table_words: tables.words().len() as u32,
+    }
+}
+
+/// A part of the tests on a stack of so many bytes.
+fn on_stack(bytes: usize, folder: &str, part: fn(&str)) {
+    let folder = folder.to_string();
+    let thread = thread::Builder::new().stack_size(bytes).spawn(move || part(&folder));
+    if thread.expect("a thread").join().is_err() {
+        std::process::exit(1);
+    }
 }
 
 /// Writes the deep inputs as a corpus file; the answers in it mean nothing.
@@ -157,11 +216,9 @@ fn main() {
         ["--write", path] => write(path),
         [folder] => {
             report::watch();
-            let folder = folder.to_string();
-            let tests = std::thread::Builder::new().stack_size(STACK).spawn(move || run_all(&folder));
-            if tests.expect("a thread").join().is_err() {
-                std::process::exit(1);
-            }
+            on_stack(STACK, folder, run_all);
+            on_stack(DEFAULT_STACK, folder, run_safe);
+            println!("infer_tests: all passed");
         }
         _ => panic!("infer_tests FOLDER or infer_tests --write FILE"),
     }

@@ -51,7 +51,14 @@ impl Body {
     }
 }
 
-/// An argument, or an element of an array or an array pattern; arguments have no holes.
+/// An argument of a call.
+#[derive(Clone, Copy, Debug, PartialEq)]
+pub enum Argument {
+    Place(Identifier),
+    Spread(Identifier),
+}
+
+/// An element of an array or an array pattern.
 #[derive(Clone, Copy, Debug, PartialEq)]
 pub enum Element {
     Place(Identifier),
@@ -87,6 +94,15 @@ fn places(identifiers: &[Identifier]) -> impl Iterator<Item = Item> + '_ {
 
 fn item(tag: Tag, identifier: Identifier, key: u32) -> Item {
     Item { tag, identifier: identifier.0, key }
+}
+
+impl Argument {
+    fn item(&self) -> Item {
+        match *self {
+            Argument::Place(one) => place(one),
+            Argument::Spread(one) => item(Tag::Spread, one, 0),
+        }
+    }
 }
 
 impl Element {
@@ -228,11 +244,16 @@ impl Block {
         self.push(Kind::Destructure, lvalue, 1, items.collect())
     }
 
-    pub fn new_object(&mut self, lvalue: Identifier, callee: Identifier, arguments: &[Element]) -> &mut Self {
+    pub fn new_object(
+        &mut self,
+        lvalue: Identifier,
+        callee: Identifier,
+        arguments: &[Argument],
+    ) -> &mut Self {
         self.push_call(Kind::NewExpression, lvalue, &[callee], arguments)
     }
 
-    pub fn call(&mut self, lvalue: Identifier, callee: Identifier, arguments: &[Element]) -> &mut Self {
+    pub fn call(&mut self, lvalue: Identifier, callee: Identifier, arguments: &[Argument]) -> &mut Self {
         self.push_call(Kind::CallExpression, lvalue, &[callee], arguments)
     }
 
@@ -241,7 +262,7 @@ impl Block {
         lvalue: Identifier,
         receiver: Identifier,
         property: Identifier,
-        arguments: &[Element],
+        arguments: &[Argument],
     ) -> &mut Self {
         self.push_call(Kind::MethodCall, lvalue, &[receiver, property], arguments)
     }
@@ -251,9 +272,9 @@ impl Block {
         kind: Kind,
         lvalue: Identifier,
         first: &[Identifier],
-        arguments: &[Element],
+        arguments: &[Argument],
     ) -> &mut Self {
-        let items = places(first).chain(arguments.iter().map(Element::item));
+        let items = places(first).chain(arguments.iter().map(Argument::item));
         self.push(kind, lvalue, 0, items.collect())
     }
 

@@ -2,6 +2,7 @@
 
 use crate::block::Body;
 use crate::parts::{self, Table, NONE};
+use crate::shape_names::ShapeNames;
 use std::collections::HashMap;
 use std::fmt;
 
@@ -13,8 +14,15 @@ macro_rules! numbers {
         pub struct $name(pub(crate) u32);
 
         impl $name {
+            /// The row of this number, for who has the words of an image and not its builder. Whether there is such a
+            /// row is seen where it is used: the library refuses an image that names another, and a builder or tables
+            /// that are asked for it panic. `parts::NONE` is no row's number.
+            pub const fn from_number(number: u32) -> $name {
+                $name(number)
+            }
+
             /// The number in its table.
-            pub fn number(self) -> u32 {
+            pub const fn number(self) -> u32 {
                 self.0
             }
         })*
@@ -26,7 +34,7 @@ numbers! {
     Name;
     /// An identifier: a slot and perhaps a name.
     Identifier;
-    /// A slot: what the run gives a type to.
+    /// A slot: what the run gives a type to. Identifiers may share one.
     Slot;
     /// A type of the image.
     Type;
@@ -51,11 +59,12 @@ pub mod shapes {
     pub const MIXED_READONLY: Shape = Shape(8);
 }
 
-/// A finished image: what the library takes.
+/// A finished image: the words and name bytes that the library takes, and what its types are printed with.
 #[derive(Clone, Debug, PartialEq)]
 pub struct Image {
     pub words: Vec<u32>,
     pub names: Vec<u8>,
+    pub shape_names: ShapeNames,
 }
 
 /// A function that was announced and got no body.
@@ -75,6 +84,7 @@ impl std::error::Error for Missing {}
 pub struct Builder {
     image: parts::Image,
     names: HashMap<Vec<u8>, Name>,
+    shape_names: ShapeNames,
     bodies: Vec<Option<parts::Body>>,
 }
 
@@ -120,12 +130,17 @@ impl Builder {
     pub fn slot(&mut self) -> Slot {
         let slot = Slot(self.image.count(Table::Slots));
         let own = self.var(slot);
-        self.slot_of(own)
+        self.slot_with_type(own)
     }
 
     /// A slot that starts with this type.
-    pub fn slot_of(&mut self, of: Type) -> Slot {
+    pub fn slot_with_type(&mut self, of: Type) -> Slot {
         Slot(self.image.slot(of.0))
+    }
+
+    /// The slot of an identifier. Panics if this builder has no such identifier.
+    pub fn slot_of(&self, identifier: Identifier) -> Slot {
+        Slot(self.image.rows(Table::Identifiers)[Table::Identifiers.width() * identifier.0 as usize])
     }
 
     /// An unnamed identifier with a slot of its own.
@@ -189,13 +204,22 @@ impl Builder {
         Shape(self.image.shape(first, count))
     }
 
+    /// The same, with a name that it is printed by.
+    pub fn shape_named(&mut self, name: impl Into<String>, properties: &[(&str, Type)]) -> Shape {
+        let shape = self.shape(properties);
+        self.shape_names.set(shape, name);
+        shape
+    }
+
     /// Another shape that isn't registered: its objects have no properties at all.
     pub fn absent_shape(&mut self) -> Shape {
         Shape(self.image.row(Table::Shapes, &[0, 0, 0]))
     }
 
-    /// Registers a shape, one of the nine for example, with these properties; the names have to differ.
+    /// Registers a shape, one of the nine for example, with these properties; the names have to differ. Panics if this
+    /// builder has no such shape.
     pub fn register(&mut self, shape: Shape, properties: &[(&str, Type)]) -> &mut Self {
+        assert!(shape.0 < self.image.count(Table::Shapes), "no shape {}", shape.0);
         let (first, count) = self.properties(properties);
         self.image.set_shape(shape.0, [1, first, count]);
         self
@@ -219,7 +243,7 @@ impl Builder {
         Function(self.bodies.len() as u32 - 1)
     }
 
-    /// Gives a function its body.
+    /// Gives a function its body. Panics if this builder has no such function.
     pub fn body(&mut self, function: Function, body: Body) -> &mut Self {
         self.bodies[function.0 as usize] = Some(body.into_parts());
         self
@@ -231,7 +255,7 @@ impl Builder {
             self.image.body(body.ok_or(Missing(Function(number as u32)))?);
         }
         let input = self.image.write();
-        Ok(Image { words: input.image, names: input.names })
+        Ok(Image { words: input.image, names: input.names, shape_names: self.shape_names })
     }
 }
 

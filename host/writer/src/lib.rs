@@ -6,6 +6,8 @@
 mod block;
 mod builder;
 pub mod parts;
+mod shape_names;
 
-pub use block::{Block, Body, Element, Key, Prop};
+pub use block::{Argument, Block, Body, Element, Key, Prop};
 pub use builder::{shapes, Builder, Function, Identifier, Image, Missing, Name, Shape, Slot, Type};
+pub use shape_names::ShapeNames;

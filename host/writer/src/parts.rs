@@ -9,6 +9,18 @@ pub const HOOK: usize = 2;
 pub const LENGTH: usize = 19;
 pub const HEADER_WORDS: usize = 20;
 
+/// The kinds of types, in the image and in the tables.
+pub mod type_kinds {
+    pub const VAR: u32 = 0;
+    pub const PRIMITIVE: u32 = 1;
+    pub const POLY: u32 = 2;
+    pub const OBJECT_METHOD: u32 = 3;
+    pub const OBJECT: u32 = 4;
+    pub const FUNCTION: u32 = 5;
+    pub const CONSTRUCTOR: u32 = 6;
+    pub const PHI: u32 = 7;
+}
+
 /// An enum whose variants are numbered from 0 in the order of their declaration.
 macro_rules! numbered {
     ($(#[$doc:meta])* $name:ident { $($variant:ident),* $(,)? }) => {
@@ -327,31 +339,31 @@ impl Image {
     }
 
     pub fn var(&mut self, slot: u32) -> u32 {
-        self.row(Table::Types, &[0, slot, 0])
+        self.row(Table::Types, &[type_kinds::VAR, slot, 0])
     }
 
     pub fn primitive(&mut self) -> u32 {
-        self.row(Table::Types, &[1, 0, 0])
+        self.row(Table::Types, &[type_kinds::PRIMITIVE, 0, 0])
     }
 
     pub fn poly(&mut self) -> u32 {
-        self.row(Table::Types, &[2, 0, 0])
+        self.row(Table::Types, &[type_kinds::POLY, 0, 0])
     }
 
     pub fn method(&mut self) -> u32 {
-        self.row(Table::Types, &[3, 0, 0])
+        self.row(Table::Types, &[type_kinds::OBJECT_METHOD, 0, 0])
     }
 
     pub fn object(&mut self, shape: u32) -> u32 {
-        self.row(Table::Types, &[4, shape, 0])
+        self.row(Table::Types, &[type_kinds::OBJECT, shape, 0])
     }
 
     pub fn function(&mut self, shape: u32, returns: u32) -> u32 {
-        self.row(Table::Types, &[5, shape, returns])
+        self.row(Table::Types, &[type_kinds::FUNCTION, shape, returns])
     }
 
     pub fn constructor(&mut self, shape: u32, returns: u32) -> u32 {
-        self.row(Table::Types, &[6, shape, returns])
+        self.row(Table::Types, &[type_kinds::CONSTRUCTOR, shape, returns])
     }
 
     /// A Phi with list words of its own.
@@ -361,7 +373,7 @@ impl Image {
     }
 
     pub fn phi_over(&mut self, first: u32, count: u32) -> u32 {
-        self.row(Table::Types, &[7, first, count])
+        self.row(Table::Types, &[type_kinds::PHI, first, count])
     }
 
     /// Adds list words; gives the number of the first.

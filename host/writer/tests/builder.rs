@@ -40,18 +40,14 @@ fn every_kind_passes_the_check_under_its_number() {
             image.body(function, Body::hook(z).context(x).block(Block::new().returns(y).take()));
         }
         let elements = [Element::Place(x), Element::Spread(y), Element::Hole];
+        let arguments = [Argument::Place(x), Argument::Spread(y)];
         let keys = [Key::Named(name, x), Key::Computed(y, x), Key::Other(z), Key::Spread(y)];
         let props = [Prop::Attribute(name, x), Prop::Spread(y), Prop::Child(z)];
         block.load_local(x, y).load_context(x, y).declare_local(x, y).declare_context(x, y);
         block.store_local(x, y, z).store_context(x, true, y, z);
         block.destructure_array(x, &elements, z).destructure_object(x, &keys, z);
         block.primitive(x).jsx_text(x).binary(x, true, y, z);
-        block.new_object(x, y, &elements[..2]).call(x, y, &elements[..2]).method_call(
-            x,
-            y,
-            z,
-            &elements[..2],
-        );
+        block.new_object(x, y, &arguments).call(x, y, &arguments).method_call(x, y, z, &arguments);
         block.unary(x, y).type_cast(x, y).jsx(x, Some(y), &props).jsx(x, None, &props);
         block.object(x, &keys).object_method(x, first).array(x, &elements).jsx_fragment(x, &[y, z]);
         block.reg_exp(x).meta_property(x);
@@ -89,10 +85,11 @@ fn tables_of_every_sort_pass_the_check() {
     let constructor = image.constructor_type(None, function);
     let phi = image.phi_type(&[constructor, object]);
     image.register(shapes::ARRAY, &[("0", phi)]).hook_type(phi);
-    let slot = image.slot_of(phi);
+    let slot = image.slot_with_type(phi);
     let name = image.name("aRef");
     assert_eq!(image.name("aRef"), name);
     let shared = image.identifier_of(slot, Some(name));
+    assert_eq!(image.slot_of(shared), slot);
     let other = image.named("b");
     let body = Body::component(shared).param(other).spread_param(shared).block(Block::new());
     image.body(screen, body);
@@ -108,4 +105,64 @@ fn a_function_without_a_body_is_named() {
     let (outer, inner) = (image.function(), image.function());
     image.body(outer, Body::other(out));
     assert_eq!(image.finish(), Err(Missing(inner)));
+}
+
+#[test]
+fn identifiers_know_their_slots() {
+    let mut image = Builder::new();
+    let slot = image.slot();
+    let own = image.identifier();
+    let [one, other] = [(); 2].map(|()| image.identifier_of(slot, None));
+    assert_eq!([one, other, own].map(|identifier| image.slot_of(identifier).number()), [0, 0, 1]);
+    assert_eq!(Slot::from_number(0), slot);
+}
+
+#[test]
+#[should_panic]
+fn an_identifier_of_another_builder_has_no_slot() {
+    Builder::new().slot_of(Builder::new().identifier());
+}
+
+#[test]
+fn arguments_are_places_and_spreads() {
+    let built = with(|_, block, [x, y, z]| _ = block.call(x, y, &[Argument::Place(z), Argument::Spread(x)]));
+    let mut image = parts::Image::new();
+    let [x, y, z] = [(); 3].map(|()| image.variable());
+    let spread = parts::Item { tag: parts::Tag::Spread, identifier: x, key: 0 };
+    let items = vec![parts::Item::place(y), parts::Item::place(z), spread];
+    let call = parts::Instruction::new(Kind::CallExpression, x, 0, items);
+    image.body(parts::Body::of(z, vec![call]));
+    assert_eq!(built.words, image.write().image);
+}
+
+#[test]
+fn shapes_have_the_names_that_they_were_given() {
+    let mut image = Builder::new();
+    let unnamed = image.shape(&[]);
+    let named = image.shape_named("UseState", &[]);
+    let out = image.identifier();
+    let screen = image.function();
+    image.body(screen, Body::other(out));
+    let names = image.finish().expect("a body").shape_names;
+    assert_eq!([unnamed, named].map(|shape| names.get(shape)), [None, Some("UseState")]);
+    let built_in = [
+        (shapes::PROPS, "Props"),
+        (shapes::USE_REF, "UseRef"),
+        (shapes::SET_STATE, "SetState"),
+        (shapes::OBJECT, "Object"),
+        (shapes::ARRAY, "Array"),
+        (shapes::FUNCTION, "Function"),
+        (shapes::JSX, "Jsx"),
+        (shapes::REF_VALUE, "RefValue"),
+        (shapes::MIXED_READONLY, "MixedReadonly"),
+    ];
+    for (shape, name) in built_in {
+        assert_eq!(names.get(shape), Some(name));
+    }
+}
+
+#[test]
+#[should_panic(expected = "no shape 9")]
+fn a_shape_that_is_not_there_is_not_registered() {
+    Builder::new().register(Shape::from_number(9), &[]);
 }

@@ -2,16 +2,17 @@
 //!
 //!     bench [FIRST]       from the input of this number on
 //!
-//! Inputs whose tables are compared, so many of each size. Before the clock starts, the library's work words are
-//! cleared and the Rust's input is built; what is timed is one call of each. The time of an image is the least of some
-//! calls, that of a size the median of its images. The budget decides how many work words the library keeps clear, so
-//! there are two rows of figures: with the budget rounded up from the steps that the run takes, and with the whole one.
+//! Inputs whose tables are compared, so many of each size. Before the clock starts, the library's words are lent and the
+//! Rust's input is built; what is timed is one call of each. The time of an image is the least of some calls, that of a
+//! size the median of its images. The budget decides how many work words the library clears, so its times stand three
+//! times: with the budget rounded up from the steps that the run takes, with the whole one, and with the whole one as
+//! the limit of a Runner, tables read and all.
 
 use compare::answer::Library;
 use compare::inputs;
 use compare::linked::Linked;
 use infer_image::parts::Input;
-use infer_types::{infer_types_into, work_words};
+use infer_types::{infer_types_into, work_words, Runner};
 use original::run::{Arena, Prepared};
 use std::hint::black_box;
 use std::time::{Duration, Instant};
@@ -30,11 +31,20 @@ fn library(input: &Input, budget: u32, table_words: usize) -> Duration {
     let mut work = vec![0; work_words(input.image.len(), budget)];
     let mut tables = vec![0; table_words];
     least(|| {
-        work.fill(0);
         let start = Instant::now();
         let answer = infer_types_into(black_box(&input.image), &input.names, budget, &mut work, &mut tables);
         let time = start.elapsed();
         assert_eq!(answer.number, 0);
+        time
+    })
+}
+
+fn runner(input: &Input, runner: &mut Runner) -> Duration {
+    least(|| {
+        let start = Instant::now();
+        let tables = runner.infer_types(black_box(&input.image), &input.names, WHOLE_BUDGET);
+        let time = start.elapsed();
+        assert!(tables.is_ok());
         time
     })
 }
@@ -72,7 +82,9 @@ fn wanted(number: u64, sizes: &std::ops::Range<usize>, asked: &mut Linked) -> Op
 fn main() {
     let first = std::env::args().nth(1).map_or(1, |text| text.parse().expect("a number"));
     let mut asked = Linked::default();
-    println!("words            images   Rust, us   library, us   ratio   with the whole budget, us   ratio");
+    println!(
+        "words            images   Rust, us   library, us   ratio   whole budget   ratio   Runner   ratio"
+    );
     for (size, sizes) in SIZES {
         let found: Vec<_> =
             (first..).filter_map(|number| wanted(number, &sizes, &mut asked)).take(EACH).collect();
@@ -82,11 +94,14 @@ fn main() {
                 |steps: u32| if whole { WHOLE_BUDGET } else { steps.next_power_of_two().min(WHOLE_BUDGET) };
             median(found.iter().map(|(input, steps, words)| library(input, budget(*steps), *words)).collect())
         });
+        let mut kept = Runner::new();
+        let kept = median(found.iter().map(|one| runner(&one.0, &mut kept)).collect());
         println!(
-            "{size:<16}{:>7}{rust:>11.1}{fitting:>14.1}{:>8.2}{whole:>28.1}{:>8.2}",
+            "{size:<16}{:>7}{rust:>11.1}{fitting:>14.1}{:>8.2}{whole:>15.1}{:>8.2}{kept:>9.1}{:>8.2}",
             found.len(),
             fitting / rust,
-            whole / rust
+            whole / rust,
+            kept / rust
         );
     }
 }

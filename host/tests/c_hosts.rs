@@ -1,0 +1,203 @@
+//! What C hosts are told is what the writer writes: the constants of infer_types.h, and of docs/IMAGE.md the instructions and the image
+//! that it has word by word.
+
+use host::image::{
+    FnType, Instruction, Kind, Role, Table, Tag, HEADER_WORDS, HOOK, LENGTH, NONE, OPTIONS, VERSION,
+};
+use infer_image::{shapes, Block, Body, Builder, Image};
+use infer_types::{Refusal, LIMIT};
+use std::collections::HashMap;
+use std::fmt::Debug;
+
+fn read(path: &str) -> String {
+    let path = format!("{}/{path}", env!("CARGO_MANIFEST_DIR"));
+    std::fs::read_to_string(&path).unwrap_or_else(|error| panic!("{path}: {error}"))
+}
+
+/// The header's constants that are plain numbers, without their prefix.
+fn constants() -> HashMap<String, u32> {
+    let plain = |line: &str| {
+        let (name, value) = match line.strip_prefix("#define ") {
+            Some(rest) => rest.split_once(' ')?,
+            None => line.trim().split_once(" = ")?,
+        };
+        let digits = value.trim_start_matches("UINT32_C(").trim_end_matches([',', ')']);
+        Some((name.strip_prefix("INFER_TYPES_")?.to_string(), digits.parse().ok()?))
+    };
+    read("infer_types.h").lines().filter_map(plain).collect()
+}
+
+/// A name of a variant as C has it: JSXText is JSX_TEXT.
+fn c_name(variant: impl Debug) -> String {
+    let name: Vec<char> = format!("{variant:?}").chars().collect();
+    let mut out = String::new();
+    for (at, &letter) in name.iter().enumerate() {
+        let starts = letter.is_uppercase()
+            && at > 0
+            && (name[at - 1].is_lowercase() || name.get(at + 1).is_some_and(|next| next.is_lowercase()));
+        out.extend(starts.then_some('_'));
+        out.extend(letter.to_uppercase());
+    }
+    out
+}
+
+#[test]
+fn the_constants_are_the_writers() {
+    let constants = constants();
+    let has = |name: String, number: u32| assert_eq!(constants.get(&name), Some(&number), "{name}");
+    has("NONE".into(), NONE);
+    for (name, at) in [("VERSION", VERSION), ("OPTIONS", OPTIONS), ("HOOK", HOOK), ("LENGTH", LENGTH)] {
+        has(format!("WORD_{name}"), at as u32);
+    }
+    has("HEADER_WORDS".into(), HEADER_WORDS as u32);
+    Table::ALL.iter().for_each(|&one| has(format!("WORD_{}", c_name(one)), one.count_at() as u32));
+    Kind::ALL.iter().for_each(|&one| has(format!("KIND_{}", c_name(one)), one as u32));
+    Tag::ALL.iter().for_each(|&one| has(format!("TAG_{}", c_name(one)), one as u32));
+    FnType::ALL.iter().for_each(|&one| has(format!("FN_{}", c_name(one)), one as u32));
+    for (name, shape) in [
+        ("PROPS", shapes::PROPS),
+        ("USE_REF", shapes::USE_REF),
+        ("SET_STATE", shapes::SET_STATE),
+        ("OBJECT", shapes::OBJECT),
+        ("ARRAY", shapes::ARRAY),
+        ("FUNCTION", shapes::FUNCTION),
+        ("JSX", shapes::JSX),
+        ("REF_VALUE", shapes::REF_VALUE),
+        ("MIXED_READONLY", shapes::MIXED_READONLY),
+    ] {
+        has(format!("SHAPE_{name}"), shape.number());
+    }
+    let count = |prefix: &str| constants.keys().filter(|name| name.starts_with(prefix)).count();
+    assert_eq!(count("KIND_"), Kind::ALL.len());
+    assert_eq!(count("TAG_"), Tag::ALL.len());
+}
+
+/// The refusals, in the order of their numbers.
+#[test]
+fn the_refusals_are_the_bindings() {
+    let names = [
+        ("IMAGE_WORDS", Refusal::IMAGE_WORDS),
+        ("NAME_BYTES", Refusal::NAME_BYTES),
+        ("BUDGET", Refusal::BUDGET),
+        ("WORK_WORDS", Refusal::WORK_WORDS),
+        ("HEADER", Refusal::HEADER),
+        ("REFERENCES", Refusal::REFERENCES),
+        ("TYPES", Refusal::TYPES),
+        ("SHAPES", Refusal::SHAPES),
+        ("BODIES", Refusal::BODIES),
+        ("NESTING", Refusal::NESTING),
+        ("EMPTY_PHI", Refusal::EMPTY_PHI),
+        ("CYCLE", Refusal::CYCLE),
+        ("OUT_OF_STEPS", Refusal::OUT_OF_STEPS),
+        ("TABLE_WORDS", Refusal::TABLE_WORDS),
+    ];
+    let constants = constants();
+    for (number, (name, bindings)) in (1..).zip(names) {
+        assert_eq!((bindings, constants.get(&format!("REFUSED_{name}"))), (number, Some(&number)), "{name}");
+    }
+    assert_eq!(constants.get("LIMIT"), Some(&(LIMIT as u32)));
+}
+
+/// A type of each kind, in the order of the kinds.
+#[test]
+fn the_type_kinds_are_the_writers() {
+    let mut image = host::image::Image::new();
+    let slot = image.slot(0);
+    image.var(slot);
+    image.primitive();
+    image.poly();
+    image.method();
+    image.object(NONE);
+    image.function(NONE, 0);
+    image.constructor(NONE, 0);
+    image.phi(&[]);
+    let constants = constants();
+    let names = ["VAR", "PRIMITIVE", "POLY", "OBJECT_METHOD", "OBJECT", "FUNCTION", "CONSTRUCTOR", "PHI"];
+    for (name, row) in names.iter().zip(image.rows(Table::Types).chunks(3)) {
+        assert_eq!(constants.get(&format!("TYPE_{name}")), Some(&row[0]), "{name}");
+    }
+}
+
+/// The rows of the instructions in docs/IMAGE.md: number, name, aux, items.
+fn instruction_rows() -> Vec<[String; 4]> {
+    let page = read("../docs/IMAGE.md").replace("\\|", "");
+    let rows = page.lines().skip_while(|line| !line.starts_with("| kind | name |")).skip(2);
+    rows.take_while(|line| line.starts_with('|'))
+        .map(|line| {
+            let mut cells = line.split('|').skip(1).map(|cell| cell.trim().to_string());
+            [(); 4].map(|()| cells.next().expect(line))
+        })
+        .collect()
+}
+
+/// How many places a cell of items names, and which tags.
+fn items_of(cell: &str) -> (u32, Vec<u32>) {
+    let places = cell.split([',', ';', ' ']).filter(|word| ["a", "b", "c"].contains(word)).count();
+    let words: Vec<&str> = cell.split([',', ':', ' ']).filter(|word| !word.is_empty()).collect();
+    (places as u32, words.iter().filter_map(|word| word.parse().ok()).collect())
+}
+
+fn aux_of(cell: &str) -> Role {
+    match cell.split(' ').next() {
+        Some("0" | "1") => Role::Flag,
+        Some("name;") => Role::NameOrNone,
+        Some("the") => Role::TypeOrNone,
+        Some("function") => Role::Function,
+        _ => Role::Zero,
+    }
+}
+
+#[test]
+fn the_listed_instructions_are_the_writers() {
+    let rows = instruction_rows();
+    let mut kinds = Kind::ALL.iter().flat_map(|&kind| match kind {
+        Kind::Destructure => vec![(kind, 0), (kind, 1)],
+        _ => vec![(kind, 0)],
+    });
+    for [number, name, aux, items] in rows {
+        let (kind, pattern) = kinds.next().expect("a kind");
+        if pattern == 0 {
+            assert_eq!((number, name), ((kind as u32).to_string(), format!("{kind:?}")));
+        }
+        assert_eq!(aux_of(&aux), Instruction::aux_role(kind), "{kind:?}");
+        let (places, tags) = Instruction::item_rule(kind, pattern);
+        let value = (kind == Kind::Destructure) as u32;
+        assert_eq!(
+            items_of(&items),
+            (places + value, tags.iter().map(|&tag| tag as u32).collect()),
+            "{kind:?}"
+        );
+    }
+    assert_eq!(kinds.next(), None);
+}
+
+/// The image's words in docs/IMAGE.md: lines of a position, words and, from a fixed column on, what they are.
+fn listed() -> Vec<u32> {
+    const MEANINGS: usize = 16;
+    let page = read("../docs/IMAGE.md");
+    let lines = page.lines().skip_while(|line| *line != "<!-- host/c/screen.out -->").skip(2);
+    let mut words = vec![];
+    for line in lines.take_while(|line| !line.starts_with("check")) {
+        let mut numbers = line[..MEANINGS].split_whitespace();
+        assert_eq!(numbers.next(), Some(words.len().to_string().as_str()), "{line}");
+        words.extend(numbers.map(|word| if word == "NONE" { NONE } else { word.parse().expect(line) }));
+    }
+    words
+}
+
+/// The component of host/c/screen.c.
+fn built() -> Image {
+    let mut image = Builder::new();
+    image.treat_set_identifiers_as_state_setters();
+    let [props, loaded, result, out] = [(); 4].map(|()| image.identifier());
+    let setter = image.named("setCount");
+    let screen = image.function();
+    let block = Block::new().load_local(loaded, setter).call(result, loaded, &[]).returns(result).take();
+    image.body(screen, Body::component(out).param(props).block(block));
+    image.finish().expect("a body")
+}
+
+#[test]
+fn the_listed_image_is_the_writers() {
+    assert_eq!(listed(), built().words);
+}
