@@ -17,9 +17,9 @@ const MOST_BYTES: usize = 4096;
 
 const MOST_BUDGET: u32 = 1024;
 
-const MOST_WORK: usize = 16384;
+const MOST_WORK: usize = WORK_WORDS_EACH * (MOST_WORDS + MOST_BUDGET as usize);
 
-const MOST_INPUT: usize = 8205;
+const MOST_INPUT: usize = 12 + 4 * MOST_WORDS + MOST_BYTES + 1;
 
 fn say(text: &[u8]) {
     io::write_all(STDOUT_FILENO, text);

@@ -15,14 +15,14 @@ use unifier_nodes::node::node_of_type;
 use unifier_nodes::node::put_node;
 
 // The own nodes: the Primitive; after so many words the ObjectMethod; after so many the Objects of the first shapes.
-pub const OWN_METHOD: u32 = 3;
+pub const OWN_METHOD: u32 = NODE_WORDS;
 
-pub const OWN_OBJECTS: u32 = 6;
+pub const OWN_OBJECTS: u32 = 2 * NODE_WORDS;
 
 // How many shapes these are, and the words of all own nodes.
 pub const OWN_SHAPES: u32 = 8;
 
-pub const OWN_WORDS: u32 = 30;
+pub const OWN_WORDS: u32 = OWN_OBJECTS + OWN_SHAPES * NODE_WORDS;
 
 // The image's slots; where the nodes start; the lists of the image's Phis; by image position the slot of the identifier there; by
 // a body's position the slots that it returns; the own nodes; where nodes are made; the operands in hand; the names log; the slots' types.

@@ -15,7 +15,7 @@ use Rattle.unifier_definition.specs.Resolve.{get}
 use Rattle.unifier_definition.specs.Unify.{unify, unify-found, unify-property}
 use Rattle.unifier_nodes.specs.Work.{Rep, Room, Frame}
 use Rattle.unifier_nodes.specs.Promises.{Gives, Keeps, Known-both, Binds}
-use Rattle.unifier_properties.specs.Lookup.{registry-of, key-name, found-in, lookup-shape, lookup-number, Looked-up, Gives-shape}
+use Rattle.unifier_properties.specs.Lookup.{registry-of, key-name, lookup-number, Gives-shape}
 use Rattle.unifier_nodes.specs.Walks.{type-node, Type-placed, Types-laid}
 use Rattle.unifier.specs.Accesses.{unify-as-ref, unify-by-name, unify-access, Refs-laid, Access-asked, Accesses}
 use Rattle.unifier.specs.declared.access.Places.{Places}
@@ -31,7 +31,7 @@ use Rattle.unifier_nodes.proofs.Frames.{rep-same, good-same, frame-from, room-l
 use Rattle.unifier.proofs.Binding.{restated, keeps-still, keeps-trans, keeps-charged, unifies-done, unifies-refused, unifies-as}
 use Rattle.unifier_nodes.proofs.Getting.{refuses-then}
 use Rattle.unifier.proofs.Checked.{after, room-fits, room-less}
-use Rattle.unifier_properties.proofs.Lookups.{lookup-by-shape}
+use Rattle.unifier_properties.proofs.Answers.{found-in, lookup-shape, lookup-by-shape, Looked-up}
 
 -- what a node stands for stays so after a call
 rep-later : {w w′ : List ℕ} {lo top top′ stack left n : ℕ} {t : Ty} → Frame w w′ lo top top′ stack left → Rep w lo top n t → Rep w′ lo top′ n t

@@ -9,14 +9,47 @@ use lib.ListN.{getD}
 use lib.Dec.{eqb, ltb}
 use borrow.Author.Tests.{ltb-true, ltb-false, eqb-false}
 use Rattle.names.specs.Names.{same, is-hook-name}
-use Rattle.image.specs.Ty.{NONE}
+use Rattle.image.specs.Ty.{NONE, Ty}
 use Rattle.image.specs.declared.Table.the-variants.{Types, Shapes, Properties}
 use Rattle.image.specs.Image.{count, cell, word, type-at, hook-type, Property, property-at, properties-from, shape-at}
-use Rattle.unifier_definition.specs.Property.{star-bytes, PropertyNameKind, string, number, computed, Rule, exact, star, hook, Found, nothing, found, or-else, entry, by-entry, by-hook-type, hook-rule, on-registered, on-shape}
-use Rattle.unifier_properties.specs.Lookup.{registry-of, found-in, lookup-shape, answer, number-by-entry, or-later, hook-number, registered-number, shape-number, lookup-of, Looked-up, Types-inside, Registry-inside, Rows-inside}
+use Rattle.unifier_definition.specs.Cases.{shape-of}
+use Rattle.unifier_definition.specs.Property.{star-bytes, PropertyNameKind, string, number, computed, Registry, Rule, exact, star, hook, Found, nothing, found, or-else, entry, by-entry, by-hook-type, hook-rule, on-registered, on-shape, resolve-property-type}
+use Rattle.unifier_properties.specs.Lookup.{registry-of, answer, number-by-entry, or-later, number-by-hook, number-on-registered, number-on-shape, lookup-of, Types-inside, Registry-inside, Rows-inside}
 use Rattle.unifier_properties.specs.declared.Lookup.{Lookup}
 use Rattle.unifier_properties.specs.declared.Lookup.the-variants.{Exact, Star, Hook, Nothing}
 use Rattle.unifier_properties.proofs.Lookups.{shape-past, shape-row}
+
+-- what an answer says: a type of the image, and the rule that gave it
+unfoldable pub found-in : List ℕ → Lookup → Found
+found-in img (Exact n) = found exact (type-at img n)
+found-in img (Star n) = found star (type-at img n)
+found-in img (Hook n) = found hook (type-at img n)
+found-in img Nothing = nothing
+
+-- `resolve_property_type`, by the object's shape: NONE for no shape or another kind of type
+unfoldable pub lookup-shape : Registry → ℕ → PropertyNameKind → Found
+lookup-shape reg shape name =
+    elim (eqb shape NONE) [
+      | true ↦ hook-rule reg name
+      | false ↦ on-shape reg (getD (reg .shapes) shape none) name
+    ]
+
+-- a lookup goes by the shape of the object's type
+pub lookup-by-shape : (reg : Registry) (t : Ty) (name : PropertyNameKind) → resolve-property-type reg t name ≡ lookup-shape reg (shape-of t) name
+unfolding resolve-property-type lookup-shape
+lookup-by-shape reg t name = refl
+
+-- a lookup's type number is in its table
+abbrev pub Number-inside : List ℕ → Lookup → Type 0
+Number-inside img (Exact n) = n < count Types img
+Number-inside img (Star n) = n < count Types img
+Number-inside img (Hook n) = n < count Types img
+Number-inside img Nothing = Unit
+
+-- an answer stands for what the definition finds, by a type number in its table
+pub record Looked-up (img : List ℕ) (r : Lookup) (want : Found) : Type 0 where
+  pub finds : found-in img r ≡ want
+  pub inside : Number-inside img r
 
 -- an entry is one of the rows before e, or there is none
 data From-rows (img bytes : List ℕ) (e : ℕ) : Option Property → Type 0 where
@@ -57,14 +90,14 @@ else-found (Star n) h k = rw (← h .finds) (answer-found star (h .inside))
 else-found (Hook n) h k = rw (← h .finds) (answer-found hook (h .inside))
 else-found Nothing h k = rw (← h .finds) k
 
-hook-found : {img : List ℕ} (bytes : List ℕ) → Types-inside img → (name : PropertyNameKind) → Looked-up img (hook-number img name) (hook-rule (registry-of img bytes) name)
-unfolding hook-number hook-rule registry-of hook-type by-hook-type answer
+hook-found : {img : List ℕ} (bytes : List ℕ) → Types-inside img → (name : PropertyNameKind) → Looked-up img (number-by-hook img name) (hook-rule (registry-of img bytes) name)
+unfolding number-by-hook hook-rule registry-of hook-type by-hook-type answer
 hook-found {img} bytes h (string name) = go (is-hook-name name) refl (eqb (word img 2) NONE) refl
   where
-    go : (b : Bool) → is-hook-name name ≡ b → (e : Bool) → eqb (word img 2) NONE ≡ e → Looked-up img (hook-number img (string name)) (hook-rule (registry-of img bytes) (string name))
-    go false p e q = rw (hook-number, hook-rule, p) (nothing-found img)
-    go true p true q = rw (hook-number, hook-rule, p, hook-type, q) (nothing-found img)
-    go true p false q = rw (hook-number, hook-rule, p, hook-type, q) (answer-found hook (h .hook (eqb-false _ _ q)))
+    go : (b : Bool) → is-hook-name name ≡ b → (e : Bool) → eqb (word img 2) NONE ≡ e → Looked-up img (number-by-hook img (string name)) (hook-rule (registry-of img bytes) (string name))
+    go false p e q = rw (number-by-hook, hook-rule, p) (nothing-found img)
+    go true p true q = rw (number-by-hook, hook-rule, p, hook-type, q) (nothing-found img)
+    go true p false q = rw (number-by-hook, hook-rule, p, hook-type, q) (answer-found hook (h .hook (eqb-false _ _ q)))
 hook-found bytes h number = nothing-found _
 hook-found bytes h computed = nothing-found _
 
@@ -74,8 +107,8 @@ module _ {img bytes : List ℕ} {first n : ℕ} (h : Rows-inside img bytes first
   row-found rule text = entry-found rule (h .registry .types) (entry-from img bytes text (count Properties img) first n (h .within))
 
   registered-found : (name : PropertyNameKind)
-      → Looked-up img (registered-number img (properties-from img bytes first n) name) (on-registered (registry-of img bytes) (properties-from img bytes first n) name)
-  unfolding registered-number on-registered
+      → Looked-up img (number-on-registered img (properties-from img bytes first n) name) (on-registered (registry-of img bytes) (properties-from img bytes first n) name)
+  unfolding number-on-registered on-registered
   registered-found (string name) =
       else-found _ (row-found exact name) (else-found _ (row-found star star-bytes) (hook-found bytes (h .registry .types) (string name)))
   registered-found number = row-found star star-bytes
@@ -84,14 +117,14 @@ module _ {img bytes : List ℕ} {first n : ℕ} (h : Rows-inside img bytes first
 -- by the object's shape
 module _ {img bytes : List ℕ} (h : Registry-inside img bytes) (name : PropertyNameKind) where
   row-shape-found : (s : ℕ) → s < count Shapes img → (b : Bool) → eqb (cell Shapes img s 0) 1 ≡ b
-      → Looked-up img (shape-number img (shape-at img bytes s) name) (on-shape (registry-of img bytes) (shape-at img bytes s) name)
-  unfolding shape-number on-shape shape-at
+      → Looked-up img (number-on-shape img (shape-at img bytes s) name) (on-shape (registry-of img bytes) (shape-at img bytes s) name)
+  unfolding number-on-shape on-shape shape-at
   row-shape-found s l true q = rw (shape-at, q) (registered-found (record { registry = h; within = h .shape s l }) name)
   row-shape-found s l false q = rw (shape-at, q) (nothing-found img)
 
   shape-found : (s : ℕ) (b : Bool) → ltb s (count Shapes img) ≡ b
-      → Looked-up img (shape-number img (getD (registry-of img bytes .shapes) s none) name) (on-shape (registry-of img bytes) (getD (registry-of img bytes .shapes) s none) name)
-  unfolding shape-number on-shape
+      → Looked-up img (number-on-shape img (getD (registry-of img bytes .shapes) s none) name) (on-shape (registry-of img bytes) (getD (registry-of img bytes .shapes) s none) name)
+  unfolding number-on-shape on-shape
   shape-found s true q = rw (shape-row img bytes s (ltb-true s _ q)) (row-shape-found s (ltb-true s _ q) (eqb (cell Shapes img s 0) 1) refl)
   shape-found s false q = rw (shape-past img bytes s (ltb-false s _ q)) (nothing-found img)
 

@@ -19,8 +19,8 @@ use Rattle.image.specs.Image.{count, cell, word, name-at, Property, property-at
 use Rattle.image.specs.Laid.{In-table}
 use Rattle.image.specs.Program.{tabulate, tabulate-from}
 use Rattle.unifier_definition.specs.Cases.{shape-of}
-use Rattle.unifier_definition.specs.Property.{star-bytes, PropertyNameKind, string, number, computed, Registry, Rule, exact, star, entry, resolve-property-type}
-use Rattle.unifier_properties.specs.Lookup.{registry-of, key-name, entry-number, lookup-shape, answer, number-by-entry, or-later, hook-number, registered-number, shape-number, lookup-of, Rows-inside, Key-inside, Lookup-asked, Gives-shape}
+use Rattle.unifier_definition.specs.Property.{star-bytes, PropertyNameKind, string, number, computed, Rule, exact, star, entry}
+use Rattle.unifier_properties.specs.Lookup.{registry-of, key-name, entry-number, answer, number-by-entry, or-later, number-by-hook, number-on-registered, number-on-shape, lookup-of, Rows-inside, Key-inside, Lookup-asked, Gives-shape}
 use Rattle.unifier_nodes.specs.Walks.{Reads-node}
 use Rattle.unifier_nodes.specs.declared.node.Node.{Node}
 use Rattle.unifier_nodes.specs.declared.node.Node.the-variants.{Var, Primitive, Poly, ObjectMethod, Object, Function, Phi}
@@ -29,11 +29,6 @@ use Rattle.unifier_properties.specs.declared.Key.the-variants.{String, P
 use Rattle.unifier_properties.specs.declared.Entry.{Entry}
 use Rattle.unifier_properties.specs.declared.Entry.the-variants.{Is, Missing}
 use Rattle.unifier_properties.specs.declared.Lookup.the-variants.{Exact, Star, Hook, Nothing}
-
--- a lookup goes by the shape of the object's type
-pub lookup-by-shape : (reg : Registry) (t : Ty) (name : PropertyNameKind) → resolve-property-type reg t name ≡ lookup-shape reg (shape-of t) name
-unfolding resolve-property-type lookup-shape
-lookup-by-shape reg t name = refl
 
 -- the shape that a node shows
 abbrev shape-shown : Node → ℕ
@@ -114,33 +109,33 @@ module _ (rule : Rule) (o : Option Property) {r : Entry} (q : r ≡ entry-number
 
 -- a string name on a registered shape: the exact name, "*", the hook rule
 module _ (img : List ℕ) (ps : List Property) (text : List ℕ) {r : Entry} (q : r ≡ entry-number (entry ps text)) where
-  pub name-exact : {t : ℕ} → r ≡ Is t → Exact t ≡ registered-number img ps (string text)
-  unfolding registered-number or-later answer
+  pub name-exact : {t : ℕ} → r ≡ Is t → Exact t ≡ number-on-registered img ps (string text)
+  unfolding number-on-registered or-later answer
   name-exact p = rw (entry-is exact (entry ps text) q p)
 
   module _ {r′ : Entry} (p : r ≡ Missing) (q′ : r′ ≡ entry-number (entry ps star-bytes)) where
-    pub name-star : {t : ℕ} → r′ ≡ Is t → Star t ≡ registered-number img ps (string text)
-    unfolding registered-number or-later answer
+    pub name-star : {t : ℕ} → r′ ≡ Is t → Star t ≡ number-on-registered img ps (string text)
+    unfolding number-on-registered or-later answer
     name-star p′ = rw (entry-missing exact (entry ps text) q p, or-later, entry-is star (entry ps star-bytes) q′ p′)
 
-    pub name-hook : r′ ≡ Missing → hook-number img (string text) ≡ registered-number img ps (string text)
-    unfolding registered-number or-later
+    pub name-hook : r′ ≡ Missing → number-by-hook img (string text) ≡ number-on-registered img ps (string text)
+    unfolding number-on-registered or-later
     name-hook p′ = rw (entry-missing exact (entry ps text) q p, entry-missing star (entry ps star-bytes) q′ p′)
 
 -- the hook rule by a name's bytes
 module _ (img text : List ℕ) where
-  pub no-hook-name : is-hook-name text ≡ false → Nothing ≡ hook-number img (string text)
-  unfolding hook-number
-  no-hook-name e = rw (hook-number, e)
+  pub no-hook-name : is-hook-name text ≡ false → Nothing ≡ number-by-hook img (string text)
+  unfolding number-by-hook
+  no-hook-name e = rw (number-by-hook, e)
 
   module _ (e : is-hook-name text ≡ true) where
-    pub no-hook-type : word img 2 ≡ NONE → Nothing ≡ hook-number img (string text)
-    unfolding hook-number
-    no-hook-type h = rw (hook-number, e, eq-eqb (word img 2) NONE h)
+    pub no-hook-type : word img 2 ≡ NONE → Nothing ≡ number-by-hook img (string text)
+    unfolding number-by-hook
+    no-hook-type h = rw (number-by-hook, e, eq-eqb (word img 2) NONE h)
 
-    pub hook-type-found : (word img 2 ≡ NONE → ⊥) → Hook (word img 2) ≡ hook-number img (string text)
-    unfolding hook-number
-    hook-type-found h = rw (hook-number, e, ne-eqb (word img 2) NONE h)
+    pub hook-type-found : (word img 2 ≡ NONE → ⊥) → Hook (word img 2) ≡ number-by-hook img (string text)
+    unfolding number-by-hook
+    hook-type-found h = rw (number-by-hook, e, ne-eqb (word img 2) NONE h)
 
 -- digits are no hook name
 first-append : (xs : List ℕ) (d : ℕ) → getD xs 0 0 ≤ 57 → d ≤ 57 → getD (xs ++ (d ∷ [])) 0 0 ≤ 57
@@ -187,9 +182,9 @@ module _ (img bytes : List ℕ) {key : Key} where
   unfolding key-name
   names-computed e = rw e
 
-  pub no-hook-position : {k : ℕ} → key ≡ Position k → Nothing ≡ hook-number img (key-name img bytes key)
-  unfolding hook-number key-name
-  no-hook-position {k} e = rw (e, hook-number, digits-no-hook k)
+  pub no-hook-position : {k : ℕ} → key ≡ Position k → Nothing ≡ number-by-hook img (key-name img bytes key)
+  unfolding number-by-hook key-name
+  no-hook-position {k} e = rw (e, number-by-hook, digits-no-hook k)
 
 -- what a table lists, by the row's number
 tabulated : {A : Type 0} (f : ℕ → A) (d : A) (k n j i : ℕ) → i ≡ k + j → j < n → getD (tabulate-from f k n) j d ≡ f i
@@ -227,20 +222,20 @@ module _ {img bytes : List ℕ} {shape : ℕ} {key : Key} (h : Lookup-asked img 
 
 -- the answer by the object's shape: none, one past the table, one that is absent, one that is registered
 module _ (img bytes : List ℕ) (shape : ℕ) (name : PropertyNameKind) where
-  pub lookup-unshaped : shape ≡ NONE → hook-number img name ≡ lookup-of img bytes shape name
+  pub lookup-unshaped : shape ≡ NONE → number-by-hook img name ≡ lookup-of img bytes shape name
   unfolding lookup-of
   lookup-unshaped e = rw (lookup-of, eq-eqb shape NONE e)
 
   pub lookup-past : {n : ℕ} → n ≡ count Shapes img → (shape ≡ NONE → ⊥) → n ≤ shape → Nothing ≡ lookup-of img bytes shape name
-  unfolding lookup-of shape-number
+  unfolding lookup-of number-on-shape
   lookup-past e m h = rw (lookup-of, ne-eqb shape NONE m, shape-past img bytes shape (omega arith))
 
   module _ {present : ℕ} (m : shape ≡ NONE → ⊥) (h : shape < count Shapes img) (e : present ≡ cell Shapes img shape 0) where
     pub lookup-absent : (present ≡ 1 → ⊥) → Nothing ≡ lookup-of img bytes shape name
-    unfolding lookup-of shape-number shape-at
+    unfolding lookup-of number-on-shape shape-at
     lookup-absent o = rw (lookup-of, ne-eqb shape NONE m, shape-row img bytes shape h, shape-at, ← e, ne-eqb present 1 o)
 
     pub lookup-registered : {first n : ℕ} → present ≡ 1 → first ≡ cell Shapes img shape 1 → n ≡ cell Shapes img shape 2
-        → registered-number img (properties-from img bytes first n) name ≡ lookup-of img bytes shape name
-    unfolding lookup-of shape-number shape-at
+        → number-on-registered img (properties-from img bytes first n) name ≡ lookup-of img bytes shape name
+    unfolding lookup-of number-on-shape shape-at
     lookup-registered o p q = rw (lookup-of, ne-eqb shape NONE m, shape-row img bytes shape h, shape-at, ← e, eq-eqb present 1 o, p, q)

@@ -9,13 +9,13 @@ use lib.Dec.{eqb}
 use Rattle.names.specs.Names.{is-hook-name}
 use Rattle.names.specs.Digits.{digits}
 use Rattle.image.specs.Ty.{NONE, Ty}
-use Rattle.image.specs.Image.{word, count, cell, treats-refs, hook-type, name-at, type-at, shape-at, Property}
+use Rattle.image.specs.Image.{word, count, cell, treats-refs, hook-type, name-at, shape-at, Property}
 use Rattle.image.specs.Laid.{Laid, Names-inside}
 use Rattle.image.specs.Program.{tabulate}
 use Rattle.image.specs.declared.Table.the-variants.{Names, Types, Shapes, Properties}
 use Rattle.unifier_definition.specs.Cases.{shape-of}
 use Rattle.unifier_nodes.specs.Work.{Rep}
-use Rattle.unifier_definition.specs.Property.{star-bytes, PropertyNameKind, string, number, computed, Registry, Rule, exact, star, hook, Found, nothing, found, entry, hook-rule, on-shape}
+use Rattle.unifier_definition.specs.Property.{star-bytes, PropertyNameKind, string, number, computed, Registry, Rule, exact, star, hook, entry}
 use Rattle.unifier_properties.specs.declared.Key.{Key}
 use Rattle.unifier_properties.specs.declared.Key.the-variants.{String, Position, Number, Computed}
 use Rattle.unifier_properties.specs.declared.Entry.{Entry}
@@ -39,21 +39,6 @@ unfoldable pub entry-number : Option Property → Entry
 entry-number none = Missing
 entry-number (some p) = Is (p .number)
 
--- what an answer says: a type of the image, and the rule that gave it
-unfoldable pub found-in : List ℕ → Lookup → Found
-found-in img (Exact n) = found exact (type-at img n)
-found-in img (Star n) = found star (type-at img n)
-found-in img (Hook n) = found hook (type-at img n)
-found-in img Nothing = nothing
-
--- `resolve_property_type`, by the object's shape: NONE for no shape or another kind of type
-unfoldable pub lookup-shape : Registry → ℕ → PropertyNameKind → Found
-lookup-shape reg shape name =
-    elim (eqb shape NONE) [
-      | true ↦ hook-rule reg name
-      | false ↦ on-shape reg (getD (reg .shapes) shape none) name
-    ]
-
 -- the answer of a rule that gives a type of this number
 unfoldable pub answer : Rule → ℕ → Lookup
 answer exact n = Exact n
@@ -73,46 +58,34 @@ or-later (Hook n) later = Hook n
 or-later Nothing later = later
 
 -- `hook-rule` by type numbers
-unfoldable pub hook-number : List ℕ → PropertyNameKind → Lookup
-hook-number img (string name) =
+unfoldable pub number-by-hook : List ℕ → PropertyNameKind → Lookup
+number-by-hook img (string name) =
     elim (is-hook-name name) [
       | true ↦ elim (eqb (word img 2) NONE) [ true ↦ Nothing | false ↦ Hook (word img 2) ]
       | false ↦ Nothing
     ]
-hook-number img number = Nothing
-hook-number img computed = Nothing
+number-by-hook img number = Nothing
+number-by-hook img computed = Nothing
 
 -- `on-registered` by type numbers
-unfoldable pub registered-number : List ℕ → List Property → PropertyNameKind → Lookup
-registered-number img ps (string name) =
-    or-later (number-by-entry exact (entry ps name)) (or-later (number-by-entry star (entry ps star-bytes)) (hook-number img (string name)))
-registered-number img ps number = number-by-entry star (entry ps star-bytes)
-registered-number img ps computed = number-by-entry star (entry ps star-bytes)
+unfoldable pub number-on-registered : List ℕ → List Property → PropertyNameKind → Lookup
+number-on-registered img ps (string name) =
+    or-later (number-by-entry exact (entry ps name)) (or-later (number-by-entry star (entry ps star-bytes)) (number-by-hook img (string name)))
+number-on-registered img ps number = number-by-entry star (entry ps star-bytes)
+number-on-registered img ps computed = number-by-entry star (entry ps star-bytes)
 
 -- `on-shape` by type numbers
-unfoldable pub shape-number : List ℕ → Option (List Property) → PropertyNameKind → Lookup
-shape-number img none name = Nothing
-shape-number img (some ps) name = registered-number img ps name
+unfoldable pub number-on-shape : List ℕ → Option (List Property) → PropertyNameKind → Lookup
+number-on-shape img none name = Nothing
+number-on-shape img (some ps) name = number-on-registered img ps name
 
--- `lookup-shape` by type numbers: the answer of `resolve_property_type`
+-- `resolve-property-type` by type numbers and by the object's shape, NONE for no shape or another kind of type
 unfoldable pub lookup-of : (img bytes : List ℕ) → ℕ → PropertyNameKind → Lookup
 lookup-of img bytes shape name =
     elim (eqb shape NONE) [
-      | true ↦ hook-number img name
-      | false ↦ shape-number img (getD (registry-of img bytes .shapes) shape none) name
+      | true ↦ number-by-hook img name
+      | false ↦ number-on-shape img (getD (registry-of img bytes .shapes) shape none) name
     ]
-
--- a lookup's type number is in its table
-abbrev pub Number-inside : List ℕ → Lookup → Type 0
-Number-inside img (Exact n) = n < count Types img
-Number-inside img (Star n) = n < count Types img
-Number-inside img (Hook n) = n < count Types img
-Number-inside img Nothing = Unit
-
--- an answer stands for what the definition finds, by a type number in its table
-pub record Looked-up (img : List ℕ) (r : Lookup) (want : Found) : Type 0 where
-  pub finds : found-in img r ≡ want
-  pub inside : Number-inside img r
 
 -- the types of properties and the hook type are in their table (refusal 6)
 pub record Types-inside (img : List ℕ) : Type 0 where

@@ -2,7 +2,7 @@
 ghost use mathlib.Core.Path.{_≡_};
 ghost use Rattle.image.specs.Image.{properties-from};
 ghost use Rattle.unifier_definition.specs.Property.{entry, star, star-bytes, string};
-ghost use Rattle.unifier_properties.specs.Lookup.{key-name, entry-number, number-by-entry, hook-number, registered-number, lookup-of, Types-inside, Registry-inside, Rows-inside, Key-inside, Lookup-asked, Gives-shape};
+ghost use Rattle.unifier_properties.specs.Lookup.{key-name, entry-number, number-by-entry, number-by-hook, number-on-registered, lookup-of, Types-inside, Registry-inside, Rows-inside, Key-inside, Lookup-asked, Gives-shape};
 ghost use Rattle.unifier_nodes.specs.Walks.{Stands};
 use image::NONE;
 use image::Table;
@@ -72,7 +72,7 @@ fn find_entry(img: &[u32], bytes: &[u8], first: u32, n: u32, text: &[u8]) -> Ent
 // The hook type, if this is a hook name.
 fn hook_by_name(img: &[u32], text: &[u8]) -> Lookup
     requires { ⌜ Types-inside (now img) ⌝ }
-    ensures { λ r. ⌜ r ≡ hook-number (now (img .entry)) (string (now (text .entry))) ⌝ }
+    ensures { λ r. ⌜ r ≡ number-by-hook (now (img .entry)) (string (now (text .entry))) ⌝ }
 {
     if !is_hook_name(text) {
         return Lookup::Nothing;
@@ -87,7 +87,7 @@ fn hook_by_name(img: &[u32], text: &[u8]) -> Lookup
 // The hook type, for a hook name; digits are none.
 fn hook_rule(img: &[u32], bytes: &[u8], key: Key) -> Lookup
     requires { ⌜ Registry-inside (now img) (now bytes) × Key-inside (now img) key ⌝ }
-    ensures { λ r. ⌜ r ≡ hook-number (now (img .entry)) (key-name (now (img .entry)) (now (bytes .entry)) key) ⌝ }
+    ensures { λ r. ⌜ r ≡ number-by-hook (now (img .entry)) (key-name (now (img .entry)) (now (bytes .entry)) key) ⌝ }
 {
     match key {
         Key::String(name) => hook_by_name(img, name_bytes(img, bytes, name)),
@@ -111,7 +111,7 @@ fn star_entry(img: &[u32], bytes: &[u8], first: u32, n: u32) -> Lookup
 // The exact name, then "*", then, for a hook name, the hook type.
 fn by_name(img: &[u32], bytes: &[u8], first: u32, n: u32, text: &[u8]) -> Lookup
     requires { ⌜ Rows-inside (now img) (now bytes) first n ⌝ }
-    ensures { λ r. ⌜ r ≡ registered-number (now (img .entry)) (properties-from (now (img .entry)) (now (bytes .entry)) first n) (string (now (text .entry))) ⌝ }
+    ensures { λ r. ⌜ r ≡ number-on-registered (now (img .entry)) (properties-from (now (img .entry)) (now (bytes .entry)) first n) (string (now (text .entry))) ⌝ }
 {
     let star: &[u8] = b"*";
     if let Entry::Is(t) = find_entry(img, bytes, first, n, text) {
@@ -126,7 +126,7 @@ fn by_name(img: &[u32], bytes: &[u8], first: u32, n: u32, text: &[u8]) -> Lookup
 // What a registered shape gives, whose properties are the n rows from first on.
 fn on_registered(img: &[u32], bytes: &[u8], first: u32, n: u32, key: Key) -> Lookup
     requires { ⌜ Rows-inside (now img) (now bytes) first n × Key-inside (now img) key ⌝ }
-    ensures { λ r. ⌜ r ≡ registered-number (now (img .entry)) (properties-from (now (img .entry)) (now (bytes .entry)) first n) (key-name (now (img .entry)) (now (bytes .entry)) key) ⌝ }
+    ensures { λ r. ⌜ r ≡ number-on-registered (now (img .entry)) (properties-from (now (img .entry)) (now (bytes .entry)) first n) (key-name (now (img .entry)) (now (bytes .entry)) key) ⌝ }
 {
     match key {
         Key::String(name) => by_name(img, bytes, first, n, name_bytes(img, bytes, name)),

@@ -1,7 +1,7 @@
 use mathlib.Core.Path.{sym}
 use borrow.Author.Needs.{needs}
 use lib.Seq.{length-take-le}
-use Rattle.unifier_properties.specs.Lookup.{registered-number}
+use Rattle.unifier_properties.specs.Lookup.{number-on-registered}
 use Rattle.unifier_properties.proofs.Lookups.{key-named, names-string, names-position, names-number, names-computed}
 use Rattle.unifier_properties.proofs.on_registered.Statement.{statement}
 use Rattle.unifier_properties.proofs.on_registered.Tie as tie
@@ -21,11 +21,11 @@ returns-2 : tie.Need-returns-2
 returns-2 c = rw (names-position _ _ (c .before .before .before .before .before .key2 .given .1) (c .before .before .before .digits-of .ensures)) (c .by-name2 .ensures)
 
 returns-3 : tie.Need-returns-3
-unfolding registered-number
+unfolding number-on-registered
 returns-3 c = rw (names-number _ _ (c .before .enum-told .given .1)) (c .star-entry .ensures)
 
 returns-4 : tie.Need-returns-4
-unfolding registered-number
+unfolding number-on-registered
 returns-4 c = rw (names-computed _ _ (c .before .enum-told2 .given .1)) (c .star-entry2 .ensures)
 
 pub on-registered-spec : {M : Type 1} → statement M
