@@ -8,6 +8,9 @@ const TOWER: u32 = 2_047;
 /// Phis of two operands, one of them a leaf, in a type of fewer than 4,096 words written out.
 const NEST: u32 = 1_364;
 
+/// The name of the one that takes over 8 MiB of stack.
+pub const DEEPEST: &str = "copies of phis under get, in functions in each other";
+
 /// Names and inputs, in the order of their stored answers.
 pub fn deep() -> Vec<Case> {
     let mut cases = vec![];
@@ -29,7 +32,7 @@ pub fn deep() -> Vec<Case> {
     add("function types in each other, unified", two_towers(5));
     add("phis in each other under try_resolve_type", nests(4));
     add("functions in each other", functions(4_360));
-    add("copies of phis under get, in functions in each other", copied_nests(1_200, 26, 1_500, 3_712));
+    add(DEEPEST, copied_nests(1_200, 26, 1_500, 3_712));
     cases
 }
 

@@ -4,10 +4,15 @@
 use host::image::{
     FnType, Instruction, Kind, Role, Table, Tag, HEADER_WORDS, HOOK, LENGTH, NONE, OPTIONS, VERSION,
 };
-use infer_image::{shapes, Block, Body, Builder, Image};
+use infer_image::shapes;
 use infer_types::{Refusal, LIMIT};
 use std::collections::HashMap;
 use std::fmt::Debug;
+
+/// The example in Rust, whose screen is that of host/c/screen.c.
+#[allow(dead_code)]
+#[path = "../binding/examples/screen.rs"]
+mod example;
 
 fn read(path: &str) -> String {
     let path = format!("{}/{path}", env!("CARGO_MANIFEST_DIR"));
@@ -185,19 +190,7 @@ fn listed() -> Vec<u32> {
     words
 }
 
-/// The component of host/c/screen.c.
-fn built() -> Image {
-    let mut image = Builder::new();
-    image.treat_set_identifiers_as_state_setters();
-    let [props, loaded, result, out] = [(); 4].map(|()| image.identifier());
-    let setter = image.named("setCount");
-    let screen = image.function();
-    let block = Block::new().load_local(loaded, setter).call(result, loaded, &[]).returns(result).take();
-    image.body(screen, Body::component(out).param(props).block(block));
-    image.finish().expect("a body")
-}
-
 #[test]
 fn the_listed_image_is_the_writers() {
-    assert_eq!(listed(), built().words);
+    assert_eq!(listed(), example::screen().expect("a body").words);
 }

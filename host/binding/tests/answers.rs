@@ -79,23 +79,6 @@ fn edges_of_budget_work_and_tables() {
 }
 
 #[test]
-fn tables_longer_than_most_are_lent() {
-    let mut image = Builder::new();
-    let out = image.identifier();
-    let screen = image.function();
-    image.body(screen, Body::other(out));
-    let mut long = image.primitive();
-    for _ in 0..10 {
-        long = image.phi_type(&[long, long]);
-    }
-    for _ in 0..100 {
-        image.slot_with_type(long);
-    }
-    let tables = run(&image.finish().expect("a body"), 1_024).expect("tables");
-    assert_eq!(tables.words().len(), 2 + 100 * (3 * 1_024 - 2));
-}
-
-#[test]
 fn every_refusal_has_its_own_help() {
     let help = |number| Refusal { number, steps: 0, table_words: 0 }.help();
     let mut all: Vec<&str> = (1..=15).map(help).collect();

@@ -101,8 +101,8 @@ fn no_more_table_words_are_lent_than_allowed() {
     }
 }
 
-#[test]
-fn a_long_table_is_refused_unless_it_is_asked_for() {
+/// So many slots with a type of 3,070 words beside the first, and the table words of all.
+fn long_tables(slots: u32) -> (Image, u32) {
     let mut image = Builder::new();
     let out = image.identifier();
     let screen = image.function();
@@ -111,11 +111,22 @@ fn a_long_table_is_refused_unless_it_is_asked_for() {
     for _ in 0..10 {
         long = image.phi_type(&[long, long]);
     }
-    for _ in 0..1_400 {
+    for _ in 0..slots {
         image.slot_with_type(long);
     }
-    let image = image.finish().expect("a body");
-    let wanted = 2 + 1_400 * (3 * 1_024 - 2);
+    (image.finish().expect("a body"), 2 + slots * (3 * 1_024 - 2))
+}
+
+#[test]
+fn tables_longer_than_most_are_lent() {
+    let (image, wanted) = long_tables(100);
+    let tables = infer_types(&image.words, &image.names, 1_024).expect("tables");
+    assert_eq!(tables.words().len(), wanted as usize);
+}
+
+#[test]
+fn a_long_table_is_refused_unless_it_is_asked_for() {
+    let (image, wanted) = long_tables(1_400);
     let refusal = infer_types(&image.words, &image.names, 1_024).expect_err("a refusal");
     assert_eq!((refusal.number, refusal.table_words), (Refusal::TABLE_WORDS, wanted));
     let mut runner = Runner::new().table_words_at_most(wanted as usize);

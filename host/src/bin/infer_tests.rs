@@ -19,8 +19,9 @@ const MOST_TABLES: usize = 1_000_000;
 const HELD: [u32; 2] = [0xA5A5_A5A5, 0x5A5A_5A5A];
 /// Words lent beyond those that are asked for, in some of the runs.
 const MORE: usize = 1_000;
-/// The stack of a test that calls the library directly, which is enough for every image.
-const STACK: usize = 10 << 20;
+/// The stack of a test that calls the library directly, a usual main thread's; and one that is enough for every image.
+const STACK: usize = 8 << 20;
+const WHOLE_STACK: usize = 10 << 20;
 /// The stack of a test that calls it through the binding's safe functions: what Rust gives a thread by default.
 const DEFAULT_STACK: usize = 2 << 20;
 
@@ -128,8 +129,12 @@ fn run_corpus(tests: &mut Tests, folder: &str, name: &str) {
     tests.part(name);
 }
 
-fn run_deep(tests: &mut Tests, folder: &str) {
-    for (case, expected) in deep_answered(folder) {
+fn is_deepest(case: &Case) -> bool {
+    case.name == deep::DEEPEST
+}
+
+fn run_deep(tests: &mut Tests, folder: &str, wanted: fn(&Case) -> bool) {
+    for (case, expected) in deep_answered(folder).into_iter().filter(|one| wanted(&one.0)) {
         // Said before the run: a stack that is too small ends the program.
         print!("  {}:", case.name);
         _ = std::io::stdout().flush();
@@ -147,12 +152,16 @@ fn run_all(folder: &str) {
     for name in CORPUS {
         run_corpus(&mut tests, folder, name);
     }
-    run_deep(&mut tests, folder);
+    run_deep(&mut tests, folder, |case| !is_deepest(case));
     println!("{:<10}{}", "all", row(&tests.total));
     if let Some(number) = tests.total.iter().position(|&count| count == 0) {
         println!("FAILED: no run with answer {number}");
         std::process::exit(1);
     }
+}
+
+fn run_deepest(folder: &str) {
+    run_deep(&mut Tests::new(), folder, is_deepest);
 }
 
 /// Every stored input through the plain function and through one Runner: the stored answer and tables, whatever ran
@@ -217,6 +226,7 @@ fn main() {
         [folder] => {
             report::watch();
             on_stack(STACK, folder, run_all);
+            on_stack(WHOLE_STACK, folder, run_deepest);
             on_stack(DEFAULT_STACK, folder, run_safe);
             println!("infer_tests: all passed");
         }
