@@ -19,6 +19,7 @@ use Rattle.unifier_definition.proofs.Resolving.{resolved-unbound, resolved-agai
 use Rattle.unifier_definition.proofs.Logs.{sound-leads, sound-poly}
 use Rattle.run_definition.specs.Generate.{generate}
 use Rattle.run_definition.specs.Tables.{made-types, binding-rows, tables-of}
+use Rattle.unifier_definition.specs.Counts.{Counts}
 use Rattle.run_definition.specs.Infer.{Final, infer-types, refusal, with-tables, output-of, after-check, infer}
 use Rattle.run_definition.specs.Rules.{Visited, entry-type, type-of-slot, Rules, Tables-sound, Run-number, number-done, number-11, number-12, number-13, number-14}
 use Rattle.run_definition.proofs.Lists.{getD-inside, tabulate-at}
@@ -105,24 +106,24 @@ refusal-number empty-phi = number-11
 refusal-number cycle = number-12
 refusal-number out-of-steps = number-13
 
-tables-number : (lent steps : ℕ) (types : List Ty) (bindings : List Binding) → Run-number (with-tables lent steps types bindings .answer .number)
+tables-number : (lent steps : ℕ) (counts : Counts) (types : List Ty) (bindings : List Binding) → Run-number (with-tables lent steps counts types bindings .answer .number)
 unfolding with-tables refusal
-tables-number lent steps types bindings =
+tables-number lent steps counts types bindings =
     by-bool (leb (length (tables-of types bindings)) lent) (λ e. rw (e, with-tables) number-done) (λ e. rw (e, with-tables) number-14)
 
 output-number : (budget lent : ℕ) (o : Outcome Final) → Run-number (output-of budget lent o .answer .number)
 unfolding output-of refusal
 output-number budget lent (refused r s σ) = refusal-number r
-output-number budget lent (done f s) = tables-number lent _ (f .types) _
+output-number budget lent (done f s) = tables-number lent _ (f .counts) (f .types) _
 
 -- a run that passed the check ends in 0 or in 11 to 14
 pub run-number : (img bytes : List ℕ) (budget work lent : ℕ) → check img bytes budget work ≡ 0 → Run-number (infer img bytes budget work lent .answer .number)
 unfolding infer after-check
 run-number img bytes budget work lent e = rw (e, after-check) (output-number budget lent (infer-types (program img bytes) budget))
 
-with-tables-sound : (p : Program) (lent steps : ℕ) (types : List Ty) (bindings : List Binding) → Rules p types bindings → with-tables lent steps types bindings .answer .number ≡ 0 → Tables-sound p (with-tables lent steps types bindings)
+with-tables-sound : (p : Program) (lent steps : ℕ) (counts : Counts) (types : List Ty) (bindings : List Binding) → Rules p types bindings → with-tables lent steps counts types bindings .answer .number ≡ 0 → Tables-sound p (with-tables lent steps counts types bindings)
 unfolding with-tables refusal
-with-tables-sound p lent steps types bindings r e =
+with-tables-sound p lent steps counts types bindings r e =
     by-bool (leb (length (tables-of types bindings)) lent)
     (λ t.
     rw (t, with-tables)
@@ -144,7 +145,7 @@ refusal-not-done out-of-steps e = omega arith
 output-sound : {p : Program} → Scoped-program p → (budget lent : ℕ) (o : Outcome Final) → infer-types p budget ≡ o → output-of budget lent o .answer .number ≡ 0 → Tables-sound p (output-of budget lent o)
 unfolding output-of refusal
 output-sound q budget lent (refused r s σ) e z = absurd (refusal-not-done r z)
-output-sound {p} q budget lent (done f s) e z = with-tables-sound p lent _ (f .types) _ (rules-kept q (run-finished p budget e)) z
+output-sound {p} q budget lent (done f s) e z = with-tables-sound p lent _ (f .counts) (f .types) _ (rules-kept q (run-finished p budget e)) z
 
 -- Demand 3: the tables of a finished run
 pub tables-sound : (img bytes : List ℕ) (budget work lent : ℕ) → check img bytes budget work ≡ 0 → infer img bytes budget work lent .answer .number ≡ 0 → Tables-sound (program img bytes) (infer img bytes budget work lent)

@@ -17,6 +17,7 @@ use Rattle.unifier_definition.proofs.RunLaws.{unify-all-law, run-sound}
 use Rattle.run_definition.specs.Generate.{generate}
 use Rattle.run_definition.specs.Visits.{visits, resolve-identifiers}
 use Rattle.run_definition.specs.Tables.{made-types}
+use Rattle.unifier_definition.specs.Counts.{no-lookups, count-lookups}
 use Rattle.run_definition.specs.Infer.{registry, Final, infer-types}
 use Rattle.run_definition.proofs.Lists.{tabulate-length}
 use Rattle.run_definition.proofs.Falling.{then-done}
@@ -32,6 +33,7 @@ pub record Finished (p : Program) (budget : ℕ) (f : Final) (s : ℕ) : Type 0 
   pub unified : unify-all (registry p) [] budget (generate p .equations) ≡ done (f .log) left
   pub applied : Applied (f .log) (visits p) left (p .entries) front s
   pub whole : f .types ≡ front ++ made-types (length (p .entries)) (generate p .slots)
+  pub counted : f .counts ≡ count-lookups (registry p) [] budget no-lookups (generate p .equations)
 
 -- a run that is done
 pub run-finished : (p : Program) (budget : ℕ) {f : Final} {s : ℕ} → infer-types p budget ≡ done f s → Finished p budget f s
@@ -42,11 +44,11 @@ run-finished p budget {f} {s} e =
     let a = when-done (resolve-identifiers-law σ s₁ (p .entries) (visits p)) e₂ in
     of-parts σ s₁ types s₂ e₁ a (cc) (cc)
   where
-    of-parts : (σ : Log) (s₁ : ℕ) (types : List Ty) (s₂ : ℕ) → unify-all (registry p) [] budget (generate p .equations) ≡ done σ s₁ → Applied σ (visits p) s₁ (p .entries) types s₂ → record { log = σ; types = types ++ made-types (length (p .entries)) (generate p .slots) } ≡ f → s₂ ≡ s → Finished p budget f s
+    of-parts : (σ : Log) (s₁ : ℕ) (types : List Ty) (s₂ : ℕ) → unify-all (registry p) [] budget (generate p .equations) ≡ done σ s₁ → Applied σ (visits p) s₁ (p .entries) types s₂ → record { log = σ; types = types ++ made-types (length (p .entries)) (generate p .slots); counts = count-lookups (registry p) [] budget no-lookups (generate p .equations) } ≡ f → s₂ ≡ s → Finished p budget f s
     of-parts σ s₁ types s₂ u a r t =
         subst (λ (x : ℕ). Finished p budget f x) t
         (subst (λ (x : Final). Finished p budget x s₂) r
-        (record { front = types; left = s₁; unified = u; applied = a; whole = refl }))
+        (record { front = types; left = s₁; unified = u; applied = a; whole = refl; counted = refl }))
 
 module _ {p : Program} (q : Scoped-program p) {budget : ℕ} {f : Final} {s : ℕ} (r : Finished p budget f s) where
   -- its log binds and mentions slots of the tables only

@@ -17,10 +17,12 @@ use Rattle.unifier_definition.proofs.Outcomes.{by-bool}
 use Rattle.unifier_definition.proofs.RunLaws.{run-sized}
 use Rattle.run_definition.specs.Generate.{generate}
 use Rattle.run_definition.specs.Tables.{made-types, binding-rows, tables-of}
+use Rattle.unifier_definition.specs.Counts.{Counts, no-lookups}
+use Rattle.unifier_definition.proofs.CountLaws.{total}
 use Rattle.run_definition.specs.Infer.{registry, Final, infer-types, Answer, refusal, with-tables, output-of, after-check, infer}
 use Rattle.image.proofs.CheckPassed.{Checked-image, check-passed}
 use Rattle.run_definition.proofs.TypeSlots.{type-words}
-use Rattle.run_definition.proofs.Falling.{unify-all-falls}
+use Rattle.run_definition.proofs.Falling.{unify-all-falls, lookups-fall}
 use Rattle.run_definition.proofs.ProgramScope.{Scoped-program, scoped-program, entries-length}
 use Rattle.run_definition.proofs.GenerateScope.{generate-scoped}
 use Rattle.run_definition.proofs.ResolvedVisits.{size-of-types}
@@ -45,22 +47,29 @@ module _ {p : Program} (q : Scoped-program p) {budget : ℕ} {f : Final} {s : �
   finished-words =
       omega (arith, tables-length (f .types) (binding-rows (f .log) (length (f .types))), types-sized, finished-slots, rows-sized (f .log) (length (f .types)), run-sized (registry p) budget (generate p .equations) (r .unified))
 
+  -- each lookup is two of its steps
+  pub finished-lookups : 2 * total (f .counts) + s ≤ budget
+  unfolding no-lookups
+  finished-lookups =
+      omega (arith, ap total (r .counted), lookups-fall (registry p) [] budget no-lookups (generate p .equations) (r .unified), r .applied .falls)
+
 -- an answer's counts and table words, by the image's slots and the budget
 pub record Fits (slots budget : ℕ) (a : Answer) : Type 0 where
   pub steps : a .steps ≤ budget
   pub slots-few : a .slots ≤ slots + budget
   pub bindings-few : a .bindings ≤ a .slots
   pub words-few : a .table-words ≤ 4096 * slots + 4 * budget
+  pub lookups-few : 2 * total (a .counts) ≤ a .steps
 
 refusal-fits : {slots budget : ℕ} (number steps words : ℕ) → steps ≤ budget → words ≤ 4096 * slots + 4 * budget → Fits slots budget (refusal number steps words .answer)
-unfolding refusal
-refusal-fits number steps words l m = record { steps = l; slots-few = omega arith; bindings-few = omega arith; words-few = m }
+unfolding refusal no-lookups
+refusal-fits number steps words l m = record { steps = l; slots-few = omega arith; bindings-few = omega arith; words-few = m; lookups-few = omega arith }
 
-tables-fit : {slots budget : ℕ} (lent steps : ℕ) (types : List Ty) (bindings : List Binding) → steps ≤ budget → length types ≤ slots + budget → length bindings ≤ length types → length (tables-of types bindings) ≤ 4096 * slots + 4 * budget → Fits slots budget (with-tables lent steps types bindings .answer)
+tables-fit : {slots budget : ℕ} (lent steps : ℕ) (counts : Counts) (types : List Ty) (bindings : List Binding) → steps ≤ budget → length types ≤ slots + budget → length bindings ≤ length types → length (tables-of types bindings) ≤ 4096 * slots + 4 * budget → 2 * total counts ≤ steps → Fits slots budget (with-tables lent steps counts types bindings .answer)
 unfolding with-tables
-tables-fit lent steps types bindings l m n k =
+tables-fit lent steps counts types bindings l m n k i =
     by-bool (leb (length (tables-of types bindings)) lent)
-    (λ e. rw (e, with-tables) (record { steps = l; slots-few = m; bindings-few = n; words-few = k }))
+    (λ e. rw (e, with-tables) (record { steps = l; slots-few = m; bindings-few = n; words-few = k; lookups-few = i }))
     (λ e. rw (e, with-tables) (refusal-fits 14 steps (length (tables-of types bindings)) l k))
 
 output-fits : {p : Program} → Scoped-program p → (slots budget lent : ℕ) → length (p .entries) ≡ slots → size-of-types (p .entries) ≤ 4096 * slots → (o : Outcome Final) → infer-types p budget ≡ o → Fits slots budget (output-of budget lent o .answer)
@@ -68,7 +77,8 @@ unfolding output-of
 output-fits q slots budget lent l m (refused r s σ) e = refusal-fits _ (budget - s) 0 (omega arith) (omega arith)
 output-fits {p} q slots budget lent l m (done f s) e =
     let r = run-finished p budget e in
-    tables-fit lent (budget - s) (f .types) (binding-rows (f .log) (length (f .types))) (omega arith) (omega (arith, finished-slots q r)) (rows-count (f .log) (length (f .types))) (omega (arith, finished-words q r))
+    tables-fit lent (budget - s) (f .counts) (f .types) (binding-rows (f .log) (length (f .types))) (omega arith) (omega (arith, finished-slots q r)) (rows-count (f .log) (length (f .types))) (omega (arith, finished-words q r))
+    (omega (arith, finished-lookups q r))
 
 -- the entry types of a checked image take at most 4,096 words each
 pub entries-sized : (img bytes : List ℕ) {budget : ℕ} → Checked-image img bytes budget → size-of-types (program img bytes .entries) ≤ 4096 * count Slots img

@@ -16,6 +16,7 @@ use Rattle.unifier_definition.specs.Outcome.{outcome-compute}
 use Rattle.unifier_definition.specs.Property.{property-compute}
 use Rattle.unifier_definition.specs.Resolve.{resolve-compute}
 use Rattle.unifier_definition.specs.Unify.{unify-compute}
+use Rattle.unifier_definition.specs.Counts.{counts-compute}
 use Rattle.run_definition.specs.Items.{items-compute}
 use Rattle.run_definition.specs.Equations.{equations-compute}
 use Rattle.run_definition.specs.Generate.{generate-compute}
@@ -25,5 +26,5 @@ use Rattle.run_definition.specs.Infer.{infer-compute}
 
 -- To unfold this one is to unfold the whole definition.
 unfoldable pub compute : Unit {0}
-unfolding names-compute digits-compute ty-compute image-compute kind-compute read-compute body-compute nesting-compute check-compute program-compute cases-compute equal-compute log-compute outcome-compute property-compute resolve-compute unify-compute items-compute equations-compute generate-compute visits-compute tables-compute infer-compute
+unfolding names-compute digits-compute ty-compute image-compute kind-compute read-compute body-compute nesting-compute check-compute program-compute cases-compute equal-compute log-compute outcome-compute property-compute resolve-compute unify-compute counts-compute items-compute equations-compute generate-compute visits-compute tables-compute infer-compute
 compute = tt

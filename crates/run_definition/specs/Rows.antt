@@ -1,4 +1,4 @@
--- Rows A to L of document 01, its edges and its mistakes to rule out: one list, proved by one lemma. Assumes nothing.
+-- Rows A to L of document 01, its edges and mistakes to rule out, and rows of document 02: one list, proved by one lemma. Assumes nothing.
 use Prim.Native.Nat.{ℕ, _+_, _*_, _-_}
 use mathlib.Core.Path.{_≡_, refl}
 use mathlib.Core.Bool.{true, false}
@@ -6,9 +6,10 @@ use mathlib.Core.Option.{Option, none, some}
 use mathlib.Core.List.{List, [], _∷_, _++_, map}
 use lib.ListN.{length}
 use Rattle.image.specs.Ty.{NONE, PROPS, USE-REF, SET-STATE, OBJECT, ARRAY, FUNCTION, REF-VALUE, MIXED-READONLY, Ty, var, prim, method, object, func}
+use Rattle.unifier_definition.specs.Counts.{Counts, no-lookups}
 use Rattle.run_definition.specs.Infer.{Output, refusal, infer}
 use Rattle.run_definition.specs.Compute.{compute}
-use Rattle.run_definition.specs.Sketch.{Words, text, load-local, store-context, primitive, call, property-load, load-global, function-expression, phi-node, block, function, Sketch, unnamed, sketch, plain, image-of, bytes-of, done-in, _≔_, phi-of, sketch-compute}
+use Rattle.run_definition.specs.Sketch.{Words, text, load-local, store-context, primitive, call, property-load, load-global, function-expression, phi-node, block, function, Sketch, unnamed, with-properties, sketch, plain, image-of, bytes-of, looked-up-in, done-in, lookups, _≔_, phi-of, sketch-compute}
 
 -- an image, what it is run with (the budget, what the work words lack, the lent table words), and what is answered
 pub record Row : Type 0 where
@@ -60,6 +61,23 @@ image-i name =
     sketch 1 NONE (name ∷ text "current" ∷ []) (0 ∷ unnamed 3) []
     (function 2 3 [] (block [] (load-local 1 0 ∷ property-load 2 1 1 ∷ []) none ∷ []) ∷ [])
 
+-- n identifiers; slot 0 is an Object of shape 0, which has these properties, slot 1 one of no shape, and these are loaded. The names are
+-- useTimer, "*" and width; type n is ObjectMethod, which is the hook type, type n + 3 Primitive.
+abbrev image-rules : (n : ℕ) → (properties loads : List Words) → Sketch
+image-rules n properties loads =
+    with-properties 0 n (text "useTimer" ∷ text "*" ∷ text "width" ∷ []) (unnamed n) ((3 ∷ 0 ∷ 0 ∷ []) ∷ (4 ∷ 0 ∷ 0 ∷ []) ∷ (4 ∷ NONE ∷ 0 ∷ []) ∷ (1 ∷ 0 ∷ 0 ∷ []) ∷ []) properties
+    (function 2 (n - 1) [] (block [] (load-global 0 (n + 1) ∷ load-global 1 (n + 2) ∷ loads) none ∷ []) ∷ [])
+
+-- slot 2 is useTimer of slot 0
+abbrev image-rule : (properties : List Words) → Sketch
+image-rule properties = image-rules 4 properties (property-load 2 0 0 ∷ [])
+
+-- H, and then an empty phi into slot 2
+abbrev image-h-phi : Sketch
+image-h-phi =
+    sketch 0 4 (text "useX" ∷ []) (unnamed 4) ((3 ∷ 0 ∷ 0 ∷ []) ∷ (4 ∷ NONE ∷ 0 ∷ []) ∷ [])
+    (function 2 3 [] (block [] (load-global 0 5 ∷ property-load 1 0 0 ∷ []) none ∷ block (phi-node 2 [] ∷ []) [] none ∷ []) ∷ [])
+
 -- L: option bit 1; slot 2 loads "setX", then slot 1 with this name word, and is called
 abbrev image-l : ℕ → Sketch
 image-l later =
@@ -90,19 +108,23 @@ output-g t u v = done-in 22 (t ∷ u ∷ v ∷ var 3 ∷ []) (0 ≔ t ∷ 1 ≔ 
 
 -- H's and J's, where the property is the hook type
 abbrev hook : ℕ → Output
-hook shape = done-in 15 (object shape ∷ method ∷ var 2 ∷ []) (0 ≔ object shape ∷ 1 ≔ method ∷ [])
+hook shape = looked-up-in 15 (lookups 0 0 1 0) (object shape ∷ method ∷ var 2 ∷ []) (0 ≔ object shape ∷ 1 ≔ method ∷ [])
 
 -- H's and J's, where it is nothing
 abbrev no-hook : ℕ → Output
-no-hook shape = done-in 11 (object shape ∷ var 1 ∷ var 2 ∷ []) (0 ≔ object shape ∷ [])
+no-hook shape = looked-up-in 11 (lookups 0 0 0 1) (object shape ∷ var 1 ∷ var 2 ∷ []) (0 ≔ object shape ∷ [])
 
--- I's, where the name is ref-like
+-- I's, where the name is ref-like: no lookup
 abbrev ref : Output
 ref = done-in 21 (object USE-REF ∷ object USE-REF ∷ object REF-VALUE ∷ var 3 ∷ []) (0 ≔ object USE-REF ∷ 1 ≔ var 0 ∷ 2 ≔ object REF-VALUE ∷ [])
 
 -- I's, where it isn't
 abbrev no-ref : Output
-no-ref = done-in 12 (var 0 ∷ var 0 ∷ var 2 ∷ var 3 ∷ []) (1 ≔ var 0 ∷ [])
+no-ref = looked-up-in 12 (lookups 0 0 0 1) (var 0 ∷ var 0 ∷ var 2 ∷ var 3 ∷ []) (1 ≔ var 0 ∷ [])
+
+-- that of `image-rule`, where this rule gave the property this type
+abbrev given-by : Counts → Ty → Output
+given-by counts t = looked-up-in 20 counts (object 0 ∷ object NONE ∷ t ∷ var 3 ∷ []) (0 ≔ object 0 ∷ 1 ≔ object NONE ∷ 2 ≔ t ∷ [])
 
 -- L's, where the callee is this
 abbrev callee-is : Ty → Output
@@ -164,7 +186,7 @@ rows =
     ∷ edge (image-a none) 5 0 4096 (refusal 13 5 0)
     ∷ edge (image-a none) 6 0 4096 output-a
     -- as many table words as A's tables have, these written out; one fewer is 14, with the length wanted and no word written
-    ∷ edge (image-a none) 100 0 5 (record { answer = record { number = 0; steps = 6; slots = 2; bindings = 1; table-words = 5 }; tables = 1 ∷ 0 ∷ 1 ∷ 0 ∷ 1 ∷ [] })
+    ∷ edge (image-a none) 100 0 5 (record { answer = record { number = 0; steps = 6; slots = 2; bindings = 1; table-words = 5; counts = no-lookups }; tables = 1 ∷ 0 ∷ 1 ∷ 0 ∷ 1 ∷ [] })
     ∷ edge (image-a none) 100 0 4 (refusal 14 6 5)
     -- "sharing the names log with an inner function": "setX" is loaded in one of the two functions and called in the other
     ∷ row (image-inner (load-local 1 0 ∷ function-expression 3 1 ∷ []) (call 2 1 ∷ [])) (callee-and-inner (func false NONE (var 6)) (func false FUNCTION (var 5)))
@@ -179,6 +201,21 @@ rows =
     ∷ row (image-component 0 0) (done-in 7 (var 0 ∷ var 1 ∷ var 2 ∷ []) (0 ≔ object PROPS ∷ 1 ≔ object USE-REF ∷ []))
     ∷ row (image-component 1 0) (done-in 4 (var 0 ∷ var 1 ∷ var 2 ∷ []) (1 ≔ object USE-REF ∷ []))
     ∷ row (image-component 0 1) (done-in 4 (var 0 ∷ var 1 ∷ var 2 ∷ []) (0 ≔ object PROPS ∷ []))
+    -- 2.1. "whether the exact name, the "*" entry, the hook rule or nothing gave it": useTimer and "*" on the shape, "*" alone, neither;
+    -- nothing is H's and J's
+    ∷ row (image-rule ((0 ∷ 7 ∷ []) ∷ (1 ∷ 4 ∷ []) ∷ [])) (given-by (lookups 1 0 0 0) prim)
+    ∷ row (image-rule ((1 ∷ 7 ∷ []) ∷ [])) (given-by (lookups 0 1 0 0) prim)
+    ∷ row (image-rule ((2 ∷ 7 ∷ []) ∷ [])) (given-by (lookups 0 0 1 0) method)
+    -- "a run counts each of the four over its lookups": width and useTimer of slot 0, whose shape has width and "*", useTimer and
+    -- width of slot 1
+    ∷ row (image-rules 7 ((2 ∷ 10 ∷ []) ∷ (1 ∷ 10 ∷ []) ∷ []) (property-load 2 0 2 ∷ property-load 3 0 0 ∷ property-load 4 1 0 ∷ property-load 5 1 2 ∷ []))
+    (looked-up-in 43 (lookups 1 1 1 1) (object 0 ∷ object NONE ∷ prim ∷ prim ∷ method ∷ var 5 ∷ var 6 ∷ [])
+    (0 ≔ object 0 ∷ 1 ≔ object NONE ∷ 2 ≔ prim ∷ 3 ≔ prim ∷ 4 ≔ method ∷ []))
+    -- "all zero in a refused run": refused in the lookup's own unification, after it, while types are resolved, and with 14
+    ∷ edge (image-h NONE (text "useX")) 7 0 4096 (refusal 13 7 0)
+    ∷ row image-h-phi (refusal 11 11 0)
+    ∷ edge (image-h NONE (text "useX")) 14 0 4096 (refusal 13 14 0)
+    ∷ edge (image-h NONE (text "useX")) 1024 0 9 (refusal 14 15 10)
     ∷ []
 
 -- the definition gives every row its answer

@@ -7,6 +7,7 @@ use mathlib.Core.List.{List, [], _∷_, _++_, flatMap}
 use lib.ListN.{length, replicate}
 use Rattle.image.specs.Ty.{NONE, Ty, phi, Tys, nil, cons}
 use Rattle.unifier_definition.specs.Log.{Binding}
+use Rattle.unifier_definition.specs.Counts.{Counts, no-lookups}
 use Rattle.run_definition.specs.Items.{concat-map-from}
 use Rattle.run_definition.specs.Tables.{tables-of}
 use Rattle.run_definition.specs.Infer.{Output}
@@ -81,14 +82,16 @@ block phis instructions returned = counted phis ++ counted instructions ++ termi
 unfoldable pub function : (fn-type returns : ℕ) → (params blocks : List Words) → Words
 function fn-type returns params blocks = fn-type ∷ returns ∷ counted params ++ 0 ∷ counted blocks
 
--- Options, hook word, names, the name word of each identifier, types after the Vars, bodies. Identifier n has slot n, and slot n has
--- type n, its own Var. There are nine absent shapes, and no properties and list words.
+-- Options, hook word, names, the name word of each identifier, types after the Vars, properties, bodies. Identifier n has slot n, and
+-- slot n has type n, its own Var. Shape 0 has the properties, and is absent where there are none; eight others are absent. There are no
+-- list words.
 pub record Sketch : Type 0 where
   pub options : ℕ
   pub hook : ℕ
   pub names : List Words
   pub identifiers : List ℕ
   pub types : List Words
+  pub properties : List Words
   pub functions : List Words
 
 -- so many identifiers without a name
@@ -96,9 +99,13 @@ abbrev pub unnamed : ℕ → List ℕ
 unnamed n = replicate n NONE
 
 -- a sketch, its fields in order
+abbrev pub with-properties : (options hook : ℕ) → List Words → List ℕ → (types properties functions : List Words) → Sketch
+with-properties options hook names identifiers types properties functions =
+    record { options = options; hook = hook; names = names; identifiers = identifiers; types = types; properties = properties; functions = functions }
+
+-- one without properties
 abbrev pub sketch : (options hook : ℕ) → List Words → List ℕ → (types functions : List Words) → Sketch
-sketch options hook names identifiers types functions =
-    record { options = options; hook = hook; names = names; identifiers = identifiers; types = types; functions = functions }
+sketch options hook names identifiers types functions = with-properties options hook names identifiers types [] functions
 
 -- no options, no hook type, unnamed identifiers, and one function of type Other
 abbrev pub plain : (identifiers : ℕ) → (types : List Words) → (returns : ℕ) → (blocks : List Words) → Sketch
@@ -111,7 +118,12 @@ ranges at (w ∷ ws) = (at ∷ length w ∷ []) ∷ ranges (at + length w) ws
 
 -- where the bodies start: after the header and the tables
 unfoldable pub bodies-at : Sketch → ℕ
-bodies-at s = 20 + 2 * length (s .names) + 6 * length (s .identifiers) + 3 * length (s .types) + 27 + 2 * length (s .functions)
+bodies-at s = 20 + 2 * length (s .names) + 6 * length (s .identifiers) + 3 * length (s .types) + 27 + 2 * length (s .properties) + 2 * length (s .functions)
+
+-- shape 0, by these properties: "present 0 or 1, first property, count"
+unfoldable pub first-shape : List Words → Words
+first-shape [] = 0 ∷ 0 ∷ 0 ∷ []
+first-shape (p ∷ ps) = 1 ∷ 0 ∷ length (p ∷ ps) ∷ []
 
 -- the tables in header order, each as its rows
 unfoldable pub tables : Sketch → List (List Words)
@@ -121,8 +133,8 @@ tables s =
     ∷ concat-map-from (λ n name. (n ∷ []) ∷ []) 0 (s .identifiers)
     ∷ (concat-map-from (λ n name. (0 ∷ n ∷ 0 ∷ []) ∷ []) 0 (s .identifiers) ++ s .types)
     ∷ []
-    ∷ replicate 9 (0 ∷ 0 ∷ 0 ∷ [])
-    ∷ []
+    ∷ (first-shape (s .properties) ∷ replicate 8 (0 ∷ 0 ∷ 0 ∷ []))
+    ∷ s .properties
     ∷ ranges (bodies-at s) (s .functions)
     ∷ []
 
@@ -142,13 +154,21 @@ image-of s =
 unfoldable pub bytes-of : Sketch → Words
 bytes-of s = joined (s .names)
 
--- done in so many steps, with these types of the slots and these bindings
-abbrev pub done-in : ℕ → List Ty → List Binding → Output
-done-in steps types bindings =
+-- done in so many steps, with lookups of these counts, these types of the slots and these bindings
+abbrev pub looked-up-in : ℕ → Counts → List Ty → List Binding → Output
+looked-up-in steps counts types bindings =
     record {
-      answer = record { number = 0; steps = steps; slots = length types; bindings = length bindings; table-words = length (tables-of types bindings) };
+      answer = record { number = 0; steps = steps; slots = length types; bindings = length bindings; table-words = length (tables-of types bindings); counts = counts };
       tables = tables-of types bindings;
     }
+
+-- done without a lookup
+abbrev pub done-in : ℕ → List Ty → List Binding → Output
+done-in steps types bindings = looked-up-in steps no-lookups types bindings
+
+-- so many lookups by the exact name, by the "*" entry, by the hook rule, and by nothing
+abbrev pub lookups : (exact star hook nothing : ℕ) → Counts
+lookups exact star hook nothing = record { exact = exact; star = star; hook = hook; nothing = nothing }
 
 -- a bound slot and its binding
 infix 70 _≔_
@@ -165,5 +185,5 @@ phi-of ts = phi (operands ts)
 
 -- To unfold this one is to unfold every definition of this file: the rows compute by it.
 unfoldable pub sketch-compute : Unit {0}
-unfolding flatMap text joined counted place instruction load-local store-context primitive call property-load load-global function-expression phi-node terminal block function ranges bodies-at tables header image-of bytes-of
+unfolding flatMap text joined counted place instruction load-local store-context primitive call property-load load-global function-expression phi-node terminal block function ranges bodies-at first-shape tables header image-of bytes-of
 sketch-compute = tt

@@ -14,3 +14,4 @@ pub mod UnifyLaws
 pub mod Fuel
 pub mod PropertyLaws
 pub mod RunLaws
+pub mod CountLaws

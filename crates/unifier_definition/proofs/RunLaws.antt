@@ -69,10 +69,11 @@ unify-all-append reg σ s (e ∷ es) fs =
     ap (and-then (unify-equation reg σ s e)) (λ i σ₁ s₁. unify-all-append reg σ₁ s₁ es fs i)
     ∙ sym (then-assoc (unify-equation reg σ s e) (λ σ₁ s₁. unify-all reg σ₁ s₁ es) (λ σ₁ s₁. unify-all reg σ₁ s₁ fs))
 
-registry-any : (reg : Registry) → Registry-only Any reg
+-- what holds of anything
+pub registry-any : (reg : Registry) → Registry-only Any reg
 registry-any reg = record { hook = λ t e. only-any; shapes = λ k ps e p m. only-any }
 
-equation-any : (e : Equation) → Equation-only Any e
+pub equation-any : (e : Equation) → Equation-only Any e
 equation-any (t ≐ u) = types-only only-any only-any
 equation-any (t ≐-property a) = property-only only-any only-any
 

@@ -6,3 +6,4 @@ pub mod Outcome
 pub mod Property
 pub mod Resolve
 pub mod Unify
+pub mod Counts

@@ -35,7 +35,8 @@ pub record Registry : Type 0 where
 pub data Rule : Type 0 where
   exact star hook : Rule
 
--- what a lookup finds: nothing, or a type and the rule that gave it
+-- what a lookup finds: nothing, or a type and the rule that gave it. Document 02, 2.1: "The property lookup should say, beside its type,
+-- whether the exact name, the "*" entry, the hook rule or nothing gave it"
 pub data Found : Type 0 where
   nothing : Found
   found : Rule → Ty → Found
