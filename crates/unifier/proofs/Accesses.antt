@@ -1,6 +1,7 @@
 -- `unify` with a Property on the right: what each return means. Assumes nothing.
 use mathlib.Core.Path.{_≡_, refl, sym, ap, _∙_}
 use mathlib.Core.Bool.{Bool, true, false}
+use mathlib.Core.Option.{some}
 use mathlib.Core.List.{List}
 use Prim.Native.Nat.{ℕ, zero, suc, _≤_, _<_}
 use native.Mathlib.Omega.{arith}
@@ -13,17 +14,23 @@ use Rattle.unifier_definition.specs.Outcome.{out-of-steps, number-of, refused, 
 use Rattle.unifier_definition.specs.Property.{PropertyNameKind, Access, Registry, Rule, exact, star, hook, Found, nothing, found, resolve-property-type, is-ref-access}
 use Rattle.unifier_definition.specs.Resolve.{get}
 use Rattle.unifier_definition.specs.Unify.{unify, unify-found, unify-property}
+use Rattle.unifier_definition.specs.Counts.{lookup-on, access-lookup}
 use Rattle.unifier_nodes.specs.Work.{Rep, Room, Frame}
 use Rattle.unifier_nodes.specs.Promises.{Gives, Keeps, Known-both, Binds}
 use Rattle.unifier_properties.specs.Lookup.{registry-of, key-name, lookup-number, Gives-shape}
 use Rattle.unifier_nodes.specs.Walks.{type-node, Type-placed, Types-laid}
-use Rattle.unifier.specs.Accesses.{unify-as-ref, unify-by-name, unify-access, Refs-laid, Access-asked, Accesses}
+use Rattle.unifier.specs.Accesses.{unify-as-ref, unify-by-name, unify-access, Refs-laid, Finds, Access-asked, Accesses}
+use Rattle.unifier.specs.declared.access.Accessed.{Accessed}
 use Rattle.unifier.specs.declared.access.Places.{Places}
 use Rattle.unifier_properties.specs.declared.Entry.{Entry}
 use Rattle.unifier_properties.specs.declared.Entry.the-variants.{Is, Missing}
 use Rattle.unifier_properties.specs.declared.Key.{Key}
 use Rattle.unifier_properties.specs.declared.Lookup.{Lookup}
 use Rattle.unifier_properties.specs.declared.Lookup.the-variants.{Exact, Star, Hook, Nothing}
+use Rattle.unifier_counts.specs.Given.{given-by, given-by-answer}
+use Rattle.unifier_counts.specs.declared.GivenBy.{GivenBy}
+use Rattle.unifier_counts.specs.declared.GivenBy.the-variants.{NoLookup}
+use Rattle.unifier_counts.proofs.Counting.{answer-given}
 use Rattle.unifier_nodes.specs.declared.state.Got.{Got}
 use Rattle.unifier_nodes.specs.declared.state.State.{State}
 use Rattle.unifier_nodes.proofs.Nodes.{type-placed}
@@ -104,23 +111,35 @@ module _ {img w : List ℕ} {lo n shape : ℕ} {l : Lookup} {e : Entry} (bytes :
       lookup-by-shape (registry-of img bytes) o (key-name img bytes key)
       ∙ ap (λ (k : ℕ). lookup-shape (registry-of img bytes) k (key-name img bytes key)) (sym (s .is top o f q))
 
+  -- what gave it
+  found-given : {given : GivenBy} {top : ℕ} → given ≡ given-by-answer l → top ≤ length w → (o : Ty) → Rep w lo top n o
+      → given ≡ given-by (some (resolve-property-type (registry-of img bytes) o (key-name img bytes key)))
+  found-given {top = top} g f o q = g ∙ answer-given img l ∙ ap (λ x. given-by (some x)) (h .finds ∙ sym (lookup-as top o f q))
+
   -- there is none
-  pub found-nothing : {st : State} {a : ℕ} → st .top ≤ length w → e ≡ Missing → st .refused ≡ 0
-      → Binds (unify-by-name (registry-of img bytes) (key-name img bytes key)) w w lo st a n st
+  pub found-nothing : {st : State} {a : ℕ} {given : GivenBy} → st .top ≤ length w → e ≡ Missing → st .refused ≡ 0 → given ≡ given-by-answer l
+      → Finds (registry-of img bytes) (key-name img bytes key) w w lo st a n (record { state = st; given = given })
   unfolding unify-found
-  found-nothing {st} f c z = record {
-    keeps = keeps-still w lo st (st .left) (st .refused) (omega arith);
-    means = λ σ t o good q q′. unifies-done σ z (rw (lookup-as (st .top) o f q′ ∙ number-missing l (sym m ∙ c) h)) good;
+  found-nothing {st} f c z g = record {
+    binds = record {
+      keeps = keeps-still w lo st (st .left) (st .refused) (omega arith);
+      means = λ σ t o good q q′. unifies-done σ z (rw (lookup-as (st .top) o f q′ ∙ number-missing l (sym m ∙ c) h)) good;
+    };
+    given = found-given g f;
   }
 
   -- the left side is unified with it
-  pub found-type : {st : State} {a i types to : ℕ} {w′ : List ℕ} {r : State} → st .top ≤ length w → e ≡ Is i → Types-laid w lo (st .top) types img → to ≡ type-node img types i
-      → Binds unify w w′ lo st a to r → Binds (unify-by-name (registry-of img bytes) (key-name img bytes key)) w w′ lo st a n r
+  pub found-type : {st : State} {a i types to : ℕ} {w′ : List ℕ} {r : State} {given : GivenBy} → st .top ≤ length w → e ≡ Is i → Types-laid w lo (st .top) types img
+      → to ≡ type-node img types i → given ≡ given-by-answer l → Binds unify w w′ lo st a to r
+      → Finds (registry-of img bytes) (key-name img bytes key) w w′ lo st a n (record { state = r; given = given })
   unfolding unify-found
-  found-type {st} {i = i} f c laid d k = record {
-    keeps = k .keeps;
-    means = λ σ t o good q q′.
-        unifies-as (rw (lookup-as (st .top) o f q′ ∙ number-given l (sym m ∙ c) h .1)) (k .means σ t (type-at img i) good q (rw d (laid .rep i (found-inside h m c))));
+  found-type {st} {i = i} f c laid d g k = record {
+    binds = record {
+      keeps = k .keeps;
+      means = λ σ t o good q q′.
+          unifies-as (rw (lookup-as (st .top) o f q′ ∙ number-given l (sym m ∙ c) h .1)) (k .means σ t (type-at img i) good q (rw d (laid .rep i (found-inside h m c))));
+    };
+    given = found-given g f;
   }
 
 -- the definition's access is the one that its test says
@@ -144,47 +163,53 @@ got-keeps {w} {w₁} {lo} {l} {st = st} {g = g} e h =
 -- `unify_property`
 module _ {img bytes w : List ℕ} {lo : ℕ} {st : State} {a obj : ℕ} {key : Key} {b : Bool} where
   -- no step is left
-  pub access-spent : st .left ≡ 0 → Accesses img bytes w w lo st a obj key b (restated st 0 13)
-  unfolding number-of unify-access
+  pub access-spent : st .left ≡ 0 → Accesses img bytes w w lo st a obj key b (record { state = restated st 0 13; given = NoLookup })
+  unfolding number-of unify-access access-lookup given-by
   access-spent z = record {
     binds = record {
       keeps = keeps-still w lo st 0 13 (omega arith);
       means = λ σ t u good p q. unifies-refused (record { why = out-of-steps; log = σ; is = rw z; by-number = refl; good = good });
     };
+    given = λ σ u good q. rw z;
   }
 
   module _ {l : ℕ} (e : st .left ≡ suc l) where
-    pub access-ref : {w′ : List ℕ} {r : State} → b ≡ true → Binds unify-as-ref w w′ lo (restated st l 0) a obj r → Accesses img bytes w w′ lo st a obj key b r
-    unfolding unify-access
+    pub access-ref : {w′ : List ℕ} {r : State} → b ≡ true → Binds unify-as-ref w w′ lo (restated st l 0) a obj r → Accesses img bytes w w′ lo st a obj key b (record { state = r; given = NoLookup })
+    unfolding unify-access access-lookup given-by
     access-ref c h = record {
       binds = record {
         keeps = keeps-charged (omega arith) (h .keeps);
         means = λ σ t u good p q. unifies-as (rw (e, c)) (h .means σ t u good p q);
       };
+      given = λ σ u good q. rw (e, c);
     }
 
     module _ {w₁ : List ℕ} {g : Got} (c : b ≡ false) (h : Gives w w₁ lo (restated st l 0) obj g) where
       -- no step was left to resolve the object
-      pub access-refused : (g .refused ≡ 0 → ⊥) → Accesses img bytes w w₁ lo st a obj key b (after st g)
-      unfolding unify-access
+      pub access-refused : (g .refused ≡ 0 → ⊥) → Accesses img bytes w w₁ lo st a obj key b (record { state = after st g; given = NoLookup })
+      unfolding unify-access access-lookup lookup-on given-by
       access-refused z = record {
         binds = record {
           keeps = got-keeps e h;
           means = λ σ t u good p q. unifies-refused (refuses-then (λ o s₁. unify-by-name (registry-of img bytes) (key-name img bytes key) σ s₁ t o) (rw (e, c)) (h .means σ u good q .ended z));
         };
+        given = λ σ u good q. rw (e, c, access-lookup, h .means σ u good q .ended z .is);
       }
 
-      pub access-found : {w₂ : List ℕ} {r : State} → g .refused ≡ 0
-          → Binds (unify-by-name (registry-of img bytes) (key-name img bytes key)) w₁ w₂ lo (after st g) a (g .node) r → Accesses img bytes w w₂ lo st a obj key b r
-      unfolding and-then unify-access
+      pub access-found : {w₂ : List ℕ} {r : Accessed} → g .refused ≡ 0
+          → Finds (registry-of img bytes) (key-name img bytes key) w₁ w₂ lo (after st g) a (g .node) r → Accesses img bytes w w₂ lo st a obj key b r
+      unfolding and-then unify-access access-lookup lookup-on
       access-found z f = record {
         binds = record {
-          keeps = keeps-trans (got-keeps e h) (f .keeps);
+          keeps = keeps-trans (got-keeps e h) (f .binds .keeps);
           means = λ σ t u good p q.
               let y = h .means σ u good q .finished z in
               unifies-as (rw (e, c, unify-access, y .1))
-              (f .means σ t (y .0) (good-same w₁ (g .top) (h .frame .grows) (h .frame .below) good) (rep-later (frame-from lo (h .frame)) p) (y .2));
+              (f .binds .means σ t (y .0) (good-same w₁ (g .top) (h .frame .grows) (h .frame .below) good) (rep-later (frame-from lo (h .frame)) p) (y .2));
         };
+        given = λ σ u good q.
+            let y = h .means σ u good q .finished z in
+            rw (e, c, access-lookup, y .1) (f .given (y .0) (y .2));
       }
 
 -- what is asked at each call

@@ -1,6 +1,8 @@
 -- `unify` with a Property on the right, over the work words: what it asks and what it promises. Assumes nothing.
 use Prim.Native.Nat.{ℕ, zero, suc}
+use mathlib.Core.Path.{_≡_}
 use mathlib.Core.Bool.{Bool, true, false}
+use mathlib.Core.Option.{some}
 use mathlib.Core.List.{List}
 use Rattle.image.specs.Ty.{USE-REF, REF-VALUE, Ty, object}
 use Rattle.unifier_definition.specs.Log.{Log}
@@ -8,12 +10,15 @@ use Rattle.unifier_definition.specs.Outcome.{Outcome, out-of-steps, refused, an
 use Rattle.unifier_definition.specs.Property.{PropertyNameKind, Registry, resolve-property-type}
 use Rattle.unifier_definition.specs.Resolve.{get}
 use Rattle.unifier_definition.specs.Unify.{unify, unify-found}
-use Rattle.unifier_nodes.specs.Work.{Rep, Room}
+use Rattle.unifier_definition.specs.Counts.{access-lookup}
+use Rattle.unifier_nodes.specs.Work.{Rep, Good, Room}
 use Rattle.unifier_nodes.specs.Walks.{Types-laid}
 use Rattle.unifier_nodes.specs.Promises.{Known-both, Binds}
 use Rattle.unifier_properties.specs.Lookup.{registry-of, key-name, Registry-inside, Key-inside}
+use Rattle.unifier.specs.declared.access.Accessed.{Accessed}
 use Rattle.unifier.specs.declared.access.Places.{Places}
 use Rattle.unifier_properties.specs.declared.Key.{Key}
+use Rattle.unifier_counts.specs.Given.{given-by}
 use Rattle.unifier_nodes.specs.declared.state.State.{State}
 
 -- `unify` of t with a Property of an object of type u, where it is a ref access
@@ -44,6 +49,13 @@ pub record Access-asked (img bytes w : List ℕ) (p : Places) (st : State) (a ob
   pub types : Types-laid w (p .lo) (st .top) (p .types) img
   pub refs : Refs-laid w (st .top) p
 
--- the promise of `unify_property`
-pub record Accesses (img bytes w w′ : List ℕ) (lo : ℕ) (st : State) (a obj : ℕ) (key : Key) (ref-like : Bool) (r : State) : Type 0 where
-  pub binds : Binds (unify-access ref-like (registry-of img bytes) (key-name img bytes key)) w w′ lo st a obj r
+-- the promise of `unify_found`
+pub record Finds (reg : Registry) (name : PropertyNameKind) (w w′ : List ℕ) (lo : ℕ) (st : State) (a n : ℕ) (r : Accessed) : Type 0 where
+  pub binds : Binds (unify-by-name reg name) w w′ lo st a n (r .state)
+  pub given : (o : Ty) → Rep w lo (st .top) n o → r .given ≡ given-by (some (resolve-property-type reg o name))
+
+-- the promise of `unify_property`. "The unifier passes this up": what gave the type, in a refusal too
+pub record Accesses (img bytes w w′ : List ℕ) (lo : ℕ) (st : State) (a obj : ℕ) (key : Key) (ref-like : Bool) (r : Accessed) : Type 0 where
+  pub binds : Binds (unify-access ref-like (registry-of img bytes) (key-name img bytes key)) w w′ lo st a obj (r .state)
+  pub given : (σ : Log) (u : Ty) → Good w lo (st .top) σ → Rep w lo (st .top) obj u
+      → r .given ≡ given-by (access-lookup ref-like (registry-of img bytes) (key-name img bytes key) σ (st .left) u)

@@ -3,9 +3,12 @@ ghost use mathlib.Core.Path.{_≡_};
 ghost use Rattle.unifier_nodes.specs.Work.{Room};
 ghost use Rattle.unifier_nodes.specs.Promises.{Known-both, Binds};
 ghost use Rattle.unifier_properties.specs.Lookup.{registry-of, key-name, lookup-number};
-ghost use Rattle.unifier.specs.Accesses.{unify-as-ref, unify-by-name, Refs-laid, Access-asked, Accesses};
+ghost use Rattle.unifier_counts.specs.declared.GivenBy.the-variants.{NoLookup};
+ghost use Rattle.unifier.specs.Accesses.{unify-as-ref, Refs-laid, Finds, Access-asked, Accesses};
 use crate::bind::unify;
 use image::refusals;
+use unifier_counts::GivenBy;
+use unifier_counts::given_by;
 use unifier_nodes::node::node_of_type;
 use unifier_nodes::state::State;
 use unifier_nodes::state::refuse;
@@ -15,6 +18,12 @@ use unifier_properties::Lookup;
 use unifier_properties::resolve_property_type;
 use unifier_properties::shape_of;
 use unifier_resolve::get;
+
+// What unify with a Property leaves: the state, and what gave the property its type.
+pub struct Accessed {
+    pub state: State,
+    pub given: GivenBy,
+}
 
 // Where the nodes start; the first node of the image's types; the nodes of the Objects of shapes USE_REF and REF_VALUE.
 pub struct Places {
@@ -33,6 +42,16 @@ fn number_of(found: Lookup) -> Entry
         Lookup::Star(t) => Entry::Is(t),
         Lookup::Hook(t) => Entry::Is(t),
         Lookup::Nothing => Entry::Missing,
+    }
+}
+
+// Refused before a lookup.
+fn without_lookup(state: State) -> Accessed
+    ensures { λ r. ⌜ r ≡ record { state = state; given = NoLookup } ⌝ }
+{
+    Accessed {
+        state,
+        given: GivenBy::NoLookup,
     }
 }
 
@@ -62,19 +81,21 @@ fn unify_found(
     a: u32,
     n: u32,
     key: Key,
-) -> State
+) -> Accessed
     requires { ⌜ Access-asked (now img) (now bytes) (now w) p st a n key ⌝ }
     requires { ⌜ st .refused ≡ 0 ⌝ }
-    ensures { λ r. ⌜ Binds (unify-by-name (registry-of (now (img .entry)) (now (bytes .entry))) (key-name (now (img .entry)) (now (bytes .entry)) key)) (now (w .entry)) (now (w .exit)) (p .lo) st a n r ⌝ }
+    ensures { λ r. ⌜ Finds (registry-of (now (img .entry)) (now (bytes .entry))) (key-name (now (img .entry)) (now (bytes .entry)) key) (now (w .entry)) (now (w .exit)) (p .lo) st a n r ⌝ }
 {
     let lo = p.lo;
     let shape = shape_of(w, lo, n);
     let found = resolve_property_type(img, bytes, shape, key);
+    let given = given_by(found);
     let Entry::Is(t) = number_of(found) else {
-        return st;
+        return Accessed { state: st, given };
     };
     let to = node_of_type(img, p.types, t);
-    unify(w, lo, st, a, to)
+    let state = unify(w, lo, st, a, to);
+    Accessed { state, given }
 }
 
 // The left side and a property of the object are made one; ref_like: the access is taken for one of a ref.
@@ -88,31 +109,35 @@ pub fn unify_property(
     obj: u32,
     key: Key,
     ref_like: bool,
-) -> State
+) -> Accessed
     requires { ⌜ Access-asked (now img) (now bytes) (now w) p st a obj key ⌝ }
     ensures { λ r. ⌜ Accesses (now (img .entry)) (now (bytes .entry)) (now (w .entry)) (now (w .exit)) (p .lo) st a obj key «ref_like» r ⌝ }
 {
     let steps = st.left;
     if steps == 0 {
-        return refuse(st, 0, refusals::OUT_OF_STEPS);
+        return without_lookup(refuse(st, 0, refusals::OUT_OF_STEPS));
     }
     let next = refuse(st, steps - 1, 0);
     if ref_like {
-        return unify_ref(w, p, next, a, obj);
+        let state = unify_ref(w, p, next, a, obj);
+        return Accessed {
+            state,
+            given: GivenBy::NoLookup,
+        };
     }
     let stack = st.stack;
     let g = get(w, p.lo, next, obj);
     let left = g.left;
     let top = g.top;
     let refused = g.refused;
-    let s = State {
+    let state = State {
         left,
         top,
         stack,
         refused,
     };
     if refused != 0 {
-        return s;
+        return without_lookup(state);
     }
-    unify_found(img, bytes, w, p, s, a, g.node, key)
+    unify_found(img, bytes, w, p, state, a, g.node, key)
 }

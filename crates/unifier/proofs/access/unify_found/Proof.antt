@@ -9,24 +9,24 @@ use Rattle.unifier.proofs.access.unify_found.Tie as tie
 
 returns : tie.Need-returns
 returns c =
-    let p = c .before .before .before .before .before .before .before .before .before .pre in
-    found-nothing _ _ (c .before .before .before .before .shape-of .ensures) (looked-up (p .0 .registry) _ _ (c .before .before .before .resolve-property-type .ensures)) (c .before .before .number-of .ensures) (asked-fits (p .0)) (c .enum-told .given .1) (p .1)
+    let p = c .before .before .before .before .before .before .before .before .before .before .pre in
+    found-nothing _ _ (c .before .before .before .before .before .shape-of .ensures) (looked-up (p .0 .registry) _ _ (c .before .before .before .before .resolve-property-type .ensures)) (c .before .before .number-of .ensures) (asked-fits (p .0)) (c .enum-told .given .1) (p .1) (c .before .before .before .given-by .ensures)
 
 node-of-type-requires : tie.Need-node-of-type-requires
 node-of-type-requires c κs =
-    let p = c .before .before .before .before .before .before .before .before .before .before .pre .0 in
-    asked-placed p (found-inside (looked-up (p .registry) _ _ (c .before .before .before .before .resolve-property-type .ensures)) (c .before .before .before .number-of .ensures) (c .before .t .given .1))
+    let p = c .before .before .before .before .before .before .before .before .before .before .before .pre .0 in
+    asked-placed p (found-inside (looked-up (p .registry) _ _ (c .before .before .before .before .before .resolve-property-type .ensures)) (c .before .before .before .number-of .ensures) (c .before .t .given .1))
 
 unify-requires : tie.Need-unify-requires
 unify-requires c κs =
-    let p = c .before .before .before .before .before .before .before .before .before .before .before .before .pre .0 in
-    let i = found-inside (looked-up (p .registry) _ _ (c .before .before .before .before .before .before .resolve-property-type .ensures)) (c .before .before .before .before .before .number-of .ensures) (c .before .before .before .t .given .1) in
+    let p = c .before .before .before .before .before .before .before .before .before .before .before .before .before .pre .0 in
+    let i = found-inside (looked-up (p .registry) _ _ (c .before .before .before .before .before .before .before .resolve-property-type .ensures)) (c .before .before .before .before .before .number-of .ensures) (c .before .before .before .t .given .1) in
     (room-charged (p .room), found-known (p .types) i (c .before .node-of-type .ensures) (p .known))
 
 returns-2 : tie.Need-returns-2
 returns-2 c =
-    let p = c .before .before .before .before .before .before .before .before .before .before .before .before .before .before .before .pre .0 in
-    found-type _ _ (c .before .before .before .before .before .before .before .before .before .before .shape-of .ensures) (looked-up (p .registry) _ _ (c .before .before .before .before .before .before .before .before .before .resolve-property-type .ensures)) (c .before .before .before .before .before .before .before .before .number-of .ensures) (asked-fits p) (c .before .before .before .before .before .before .t .given .1) (p .types) (c .before .before .before .before .node-of-type .ensures) (c .before .before .unify .ensures .binds)
+    let p = c .before .before .before .before .before .before .before .before .before .before .before .before .before .before .before .before .pre .0 in
+    found-type _ _ (c .before .before .before .before .before .before .before .before .before .before .before .shape-of .ensures) (looked-up (p .registry) _ _ (c .before .before .before .before .before .before .before .before .before .before .resolve-property-type .ensures)) (c .before .before .before .before .before .before .before .before .number-of .ensures) (asked-fits p) (c .before .before .before .before .before .before .t .given .1) (p .types) (c .before .before .before .before .node-of-type .ensures) (c .before .before .before .before .before .before .before .before .before .given-by .ensures) (c .before .before .unify .ensures .binds)
 
 pub unify-found-spec : {M : Type 1} → statement M
 unify-found-spec =
@@ -34,6 +34,7 @@ unify-found-spec =
     (tie.spec
     (λ c κs. let p = c .before .before .before .before .pre .0 in known-stands (asked-fits p) (known-right (p .known)))
     (λ c κs. let p = c .before .before .before .before .before .pre .0 in record { registry = p .registry; key-inside = p .key-inside })
+    (λ c κs. search needs)
     (λ c κs. search needs)
     (λ c. search needs)
     (λ c. search needs)
