@@ -15,6 +15,7 @@ use Rattle.run_definition.specs.Generate.{generate}
 use Rattle.run_generate.specs.Generating.{generate-for}
 use Rattle.run_definition.specs.Visits.{visits, resolve-identifiers}
 use Rattle.run_definition.specs.Tables.{made-types}
+use Rattle.unifier_definition.specs.Counts.{no-lookups, count-lookups}
 use Rattle.run_definition.specs.Infer.{registry, infer-types, refusal, output-of}
 use Rattle.run_tables.specs.Lent.{put}
 
@@ -31,7 +32,7 @@ module _ (p : Program) (budget : ℕ) where
 
   -- a run that is done
   pub run-done : {σ : Log} {s : ℕ} {types : List Ty} {s₁ : ℕ} → unify-all (registry p) [] budget (generate p .equations) ≡ done σ s → resolve-identifiers σ s (p .entries) (visits p) ≡ done types s₁
-      → infer-types p budget ≡ done (record { log = σ; types = types ++ made-types (length (p .entries)) (generate p .slots) }) s₁
+      → infer-types p budget ≡ done (record { log = σ; types = types ++ made-types (length (p .entries)) (generate p .slots); counts = count-lookups (registry p) [] budget no-lookups (generate p .equations) }) s₁
   unfolding infer-types and-then
   run-done e q = rw (e, infer-types, q) refl
 

@@ -13,12 +13,11 @@ use Rattle.image.proofs.Checked.{laid, identifier-slot, slot-type}
 use Rattle.image.proofs.CheckPassed.{Checked-image}
 use Rattle.unifier_definition.specs.Log.{Log}
 use Rattle.unifier_definition.specs.Outcome.{done}
-use Rattle.unifier_definition.specs.Property.{Registry}
-use Rattle.unifier_properties.specs.Lookup.{registry-of}
 use Rattle.unifier_definition.specs.Unify.{unify-all}
+use Rattle.unifier_definition.specs.Counts.{no-lookups, count-lookups}
+use Rattle.unifier_counts.specs.Given.{counts-of}
 use Rattle.unifier_nodes.specs.Work.{at, Good, Room}
 use Rattle.unifier_nodes.proofs.Frames.{good-same}
-use Rattle.run_definition.specs.Equations.{Generated}
 use Rattle.run_definition.specs.Generate.{generate}
 use Rattle.run_generate.specs.Generating.{generate-for}
 use Rattle.run_definition.specs.Visits.{visits, resolve-identifiers}
@@ -29,7 +28,7 @@ use Rattle.run_walk.specs.Running.{none-logged, Ready, Ran, Generates}
 use Rattle.run_tables.specs.Lent.{put, answer-of}
 use Rattle.run_tables.specs.Standing.{Slots-stand, all-types, Resolved-run, Finish-asked, Finishes}
 use Rattle.run_apply.specs.Applying.{Applying, Applies, Resolved-to}
-use Rattle.infer.specs.Run.{Run-asked, Runs}
+use Rattle.infer.specs.Run.{first-walk, Run-asked, Runs}
 use Rattle.run_layout.specs.declared.Layout.{Layout}
 use Rattle.run_walk.specs.declared.Walk.{Walk}
 use Rattle.run_apply.specs.declared.Pass.{Pass}
@@ -40,13 +39,10 @@ use Rattle.run_definition.proofs.PositionsBody.{checked}
 use Rattle.run_definition.proofs.GenerateScope.{generate-scoped}
 use Rattle.run_definition.proofs.Finished.{run-finished, finished-length}
 use Rattle.run_definition.proofs.TableSizes.{finished-words, entries-sized, image-slots}
-use Rattle.run_walk.proofs.Composing.{Layout-at, layout-at, prepared-after}
+use Rattle.run_walk.proofs.Composing.{Layout-at, layout-at, prepared-after, refuses-as}
 use Rattle.infer.proofs.EntryLaws.{equations-refused, visits-refused, run-done, good-none, registry-is, outermost-gives, put-none}
 
--- the walk that `run` starts with, and the pass after its equations
-abbrev pub first-walk : ℕ → Layout → Walk
-first-walk budget lay = record { left = budget; top = lay .top; refused = 0; next = lay .slots; log = lay .log; at = 0 }
-
+-- the pass after its equations
 abbrev pub first-pass : Walk → Pass
 first-pass g = record { left = g .left; top = g .top; refused = 0; at = 0 }
 
@@ -107,6 +103,7 @@ module _ {img bytes w w₁ : List ℕ} {budget : ℕ} {lay : Layout} (asked : Ru
           room = record { heap = omega arith; hand = omega arith; small = words-few };
           slots = omega arith;
           entries = omega arith;
+          counted = omega arith;
           opened = omega arith;
           running = refl;
           σ = [];
@@ -120,11 +117,8 @@ module _ {img bytes w w₁ : List ℕ} {budget : ℕ} {lay : Layout} (asked : Ru
 
   module _ {w₂ : List ℕ} {g : Walk} (gen : Generates (λ ns k. generate-for (program img bytes) 0 k) img bytes w₁ w₂ lay (lay .log) (first-walk budget lay) g) where
     -- what the equations of the program come to
-    ran : Ran img bytes w₂ lay (lay .log) g (generate p) (unify-all (registry p) [] budget (generate p .equations))
-    ran =
-        subst (λ (reg : Registry). Ran img bytes w₂ lay (lay .log) g (generate p) (unify-all reg [] budget (generate p .equations))) (registry-is img bytes)
-        (subst (λ (x : Generated). Ran img bytes w₂ lay (lay .log) g x (unify-all (registry-of img bytes) [] budget (x .equations))) (outermost-gives img bytes entries-many)
-        (gen .means [] [] no-bindings (none-logged refl)))
+    ran : Ran img bytes w₂ lay (lay .log) (first-walk budget lay) g [] (generate p)
+    ran = subst (Ran img bytes w₂ lay (lay .log) (first-walk budget lay) g []) (outermost-gives img bytes entries-many) (gen .means [] [] no-bindings (none-logged refl))
 
     -- as many work words as there were
     generated-length : length w₂ ≡ length w
@@ -133,7 +127,7 @@ module _ {img bytes w w₁ : List ℕ} {budget : ℕ} {lay : Layout} (asked : Ru
     -- the answer where the equations are refused
     pub generate-stops : {t : List ℕ} {r : Answered} → (g .refused ≡ 0 → ⊥) → answer-of r ≡ refusal (g .refused) (budget - g .left) 0 .answer → Runs img bytes budget w w₂ t t r
     generate-stops {t} z a =
-        let h = ran .ended z in
+        let h = refuses-as (ap (λ reg. unify-all reg [] budget (generate p .equations)) (sym (registry-is img bytes))) (ran .ended z) in
         runs-refused (g .refused) (budget - g .left) (equations-refused p budget (length t) (h .is) ∙ ap (λ n. refusal n (budget - g .left) 0) (sym (h .by-number))) a generated-length
 
     module _ (z : g .refused ≡ 0) where
@@ -141,7 +135,12 @@ module _ {img bytes w w₁ : List ℕ} {budget : ℕ} {lay : Layout} (asked : Ru
       σ = ran .finished z .0
 
       unified : unify-all (registry p) [] budget (generate p .equations) ≡ done σ (g .left)
-      unified = ran .finished z .1
+      unified = ap (λ reg. unify-all reg [] budget (generate p .equations)) (sym (registry-is img bytes)) ∙ ran .finished z .1
+
+      -- the counts are those of the program's equations
+      counts-are : count-lookups (registry p) [] budget no-lookups (generate p .equations) ≡ counts-of (g .counts)
+      unfolding no-lookups counts-of
+      counts-are = ap (λ reg. count-lookups reg [] budget no-lookups (generate p .equations)) (sym (registry-is img bytes)) ∙ sym (ran .counts z)
 
       good : Good w₂ (lay .lo) (g .top) σ
       good = ran .finished z .2
@@ -205,8 +204,8 @@ module _ {img bytes w w₁ : List ℕ} {budget : ℕ} {lay : Layout} (asked : Ru
           abbrev types : List Ty
           types = resolved .finished n .0
 
-          whole : infer-types p budget ≡ done (record { log = σ; types = types ++ made-types (length (p .entries)) (generate p .slots) }) (a .left)
-          whole = run-done p budget unified (resolved .finished n .1)
+          whole : infer-types p budget ≡ done (record { log = σ; types = types ++ made-types (length (p .entries)) (generate p .slots); counts = counts-of (g .counts) }) (a .left)
+          whole = rw (← counts-are) (run-done p budget unified (resolved .finished n .1))
 
           -- every slot's type, in the terms of `finish`
           all-are : types ++ made-types (length (p .entries)) (generate p .slots) ≡ all-types lay (g .next) types
@@ -246,14 +245,14 @@ module _ {img bytes w w₁ : List ℕ} {budget : ℕ} {lay : Layout} (asked : Ru
           }
 
           -- what all of it comes to
-          outputs : (lent : ℕ) → output-of budget lent (infer-types p budget) ≡ with-tables lent (budget - a .left) (all-types lay (g .next) types) (binding-rows σ (g .next))
+          outputs : (lent : ℕ) → output-of budget lent (infer-types p budget) ≡ with-tables lent (budget - a .left) (counts-of (g .counts)) (all-types lay (g .next) types) (binding-rows σ (g .next))
           unfolding output-of
           outputs lent =
               ap (output-of budget lent) whole
-              ∙ ap₂ (λ x m. with-tables lent (budget - a .left) x (binding-rows σ m)) all-are rows-are
+              ∙ ap₂ (λ x m. with-tables lent (budget - a .left) (counts-of (g .counts)) x (binding-rows σ m)) all-are rows-are
 
           -- the answer where all is done
-          pub run-finishes : {t t′ : List ℕ} {r : Answered} → Finishes w₃ lay (g .next) (budget - a .left) t t′ r → Runs img bytes budget w w₃ t t′ r
+          pub run-finishes : {t t′ : List ℕ} {r : Answered} → Finishes w₃ lay (g .next) (budget - a .left) (g .counts) t t′ r → Runs img bytes budget w w₃ t t′ r
           run-finishes {t} h = record {
             answers = h .answers σ types resolved-run ∙ sym (ap (λ o. o .answer) (outputs (length t)));
             writes = h .writes σ types resolved-run ∙ sym (ap (λ o. put t 0 (o .tables)) (outputs (length t)));

@@ -10,7 +10,13 @@ use Rattle.unifier_nodes.specs.Work.{at}
 use Rattle.run_definition.specs.Infer.{infer-types, output-of}
 use Rattle.run_definition.specs.Fitting.{Passed}
 use Rattle.run_tables.specs.Lent.{put, answer-of}
+use Rattle.run_layout.specs.declared.Layout.{Layout}
+use Rattle.run_walk.specs.declared.Walk.{Walk}
 use Rattle.run_tables.specs.declared.Answer.{Answer as Answered}
+
+-- the walk that `run` starts with: all steps left, and no lookup counted
+abbrev pub first-walk : ℕ → Layout → Walk
+first-walk budget lay = record { left = budget; top = lay .top; refused = 0; next = lay .slots; log = lay .log; at = 0; counts = record { exact = 0; star = 0; hook = 0; nothing = 0 } }
 
 -- what `run` asks: an image that passed the check, as many work words as that takes, and no slot bound
 pub record Run-asked (img bytes : List ℕ) (budget : ℕ) (w : List ℕ) : Type 0 where

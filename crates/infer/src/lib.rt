@@ -5,13 +5,15 @@ ghost use lib.ListN.{length};
 ghost use Rattle.run_definition.specs.Infer.{refusal as refusal-of};
 ghost use Rattle.run_tables.specs.Lent.{answer-of, cleared};
 ghost use Rattle.infer.specs.Entry.{Infers};
-ghost use Rattle.infer.specs.Run.{Run-asked, Runs};
+ghost use Rattle.infer.specs.Run.{first-walk, Run-asked, Runs};
 use image::Table;
 use image::WORK_WORDS_EACH;
 use image::count;
 use run_apply::Pass;
+use run_layout::Layout;
 pub use run_tables::Answer;
 use run_walk::Walk;
+use unifier_counts::Counts;
 
 fn refusal(number: u32, steps: u32) -> Answer
     ensures { λ r. ⌜ answer-of r ≡ refusal-of number steps 0 .answer ⌝ }
@@ -22,6 +24,10 @@ fn refusal(number: u32, steps: u32) -> Answer
         slots: 0,
         bindings: 0,
         table_words: 0,
+        exact: 0,
+        star: 0,
+        hook: 0,
+        nothing: 0,
     }
 }
 
@@ -35,29 +41,36 @@ fn clear(w: &mut [u32], n: usize)
     }
 }
 
+// The walk before the first equation.
+fn first_walk(budget: u32, lay: Layout) -> Walk
+    ensures { λ r. ⌜ r ≡ first-walk budget lay ⌝ }
+{
+    let top = lay.top;
+    let next = lay.slots;
+    let log = lay.log;
+    Walk {
+        left: budget,
+        top,
+        refused: 0,
+        next,
+        log,
+        at: 0,
+        counts: Counts {
+            exact: 0,
+            star: 0,
+            hook: 0,
+            nothing: 0,
+        },
+    }
+}
+
 // Everything after the check, in as many work words as it takes, those of the bindings 0.
 fn run(img: &[u32], bytes: &[u8], budget: u32, w: &mut [u32], tables: &mut [u32]) -> Answer
     requires { ⌜ Run-asked (now img) (now bytes) budget (now w) ⌝ }
     ensures { λ r. ⌜ Runs (now (img .entry)) (now (bytes .entry)) budget (now (w .entry)) (now (w .exit)) (now (tables .entry)) (now (tables .exit)) r ⌝ }
 {
     let lay = run_layout::lay_out(img, w, budget);
-    let next = lay.slots;
-    let start = lay.top;
-    let log = lay.log;
-    let g = run_generate::generate(
-        img,
-        bytes,
-        w,
-        lay,
-        Walk {
-            left: budget,
-            top: start,
-            refused: 0,
-            next,
-            log,
-            at: 0,
-        },
-    );
+    let g = run_generate::generate(img, bytes, w, lay, first_walk(budget, lay));
     let left = g.left;
     let number = g.refused;
     if number != 0 {
@@ -80,7 +93,7 @@ fn run(img: &[u32], bytes: &[u8], budget: u32, w: &mut [u32], tables: &mut [u32]
     if again != 0 {
         return refusal(again, budget - after);
     }
-    run_tables::finish(w, lay, budget - after, g.next, tables)
+    run_tables::finish(w, lay, budget - after, g.next, g.counts, tables)
 }
 
 // The image check, and then the run.

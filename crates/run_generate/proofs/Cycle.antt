@@ -10,8 +10,6 @@ use Rattle.image.specs.Ty.{Ty}
 use Rattle.image.specs.Image.{word, count, cell}
 use Rattle.image.specs.Body.{Body, nested}
 use Rattle.image.specs.Program.{program}
-use Rattle.unifier_definition.specs.Unify.{unify-all}
-use Rattle.unifier_properties.specs.Lookup.{registry-of}
 use Rattle.run_definition.specs.Equations.{Names-log, Generated, get-type}
 use Rattle.run_definition.specs.Generate.{only, followed-by, with-names, component-equations, phi-equation, return-equations, generate-nested, generate-instruction, generate-instructions, generate-block, generate-blocks, generate-function}
 use Rattle.run_definition.specs.Position.{instruction-at, instructions-at, after-instructions, phis-at, count-place, terminal-place, block-at, after-block, blocks-at, context-place, blocks-place, body-from}
@@ -37,7 +35,7 @@ nothing-logged (one-logged e l a b c h) q = absurd (omega arith)
 
 -- a walk as it is, but for the names log
 abbrev pub unlogged : Walk → Walk → Walk
-unlogged g h = record { left = h .left; top = h .top; refused = h .refused; next = h .next; log = g .log; at = h .at }
+unlogged g h = record { left = h .left; top = h .top; refused = h .refused; next = h .next; log = g .log; at = h .at; counts = h .counts }
 
 module _ {img bytes w : List ℕ} {lay : Layout} {stretch : ℕ} {g : Walk} where
   -- a stretch of the names log begins where another ends
@@ -61,12 +59,13 @@ module _ {img bytes w w′ : List ℕ} {lay : Layout} {f : ℕ} {g : Walk} where
             entries = k .entries;
             fewer = k .fewer;
             log-grows = omega arith;
-            pays = λ z. let p = k .pays z in record { spent = p .spent; made = p .made; noted = omega arith };
+            pays = λ z. let p = k .pays z in record { spent = p .spent; made = p .made; noted = omega arith; counted = p .counted };
           };
           means = λ σ ns good logged.
               let y = x .means σ [] good (none-logged refl) in
               record {
                 finished = λ z. let q = y .finished z in (q .0, q .1, q .2, logged-same (λ j a b. k .names j (omega arith) b) logged, q .4);
+                counts = y .counts;
                 ended = y .ended;
               };
         };
@@ -205,7 +204,7 @@ module _ {img bytes w : List ℕ} {lay : Layout} {f : ℕ} {g : Walk} {at : ℕ}
   whole {w′} {r} x = record {
     keeps = x .keeps;
     means = λ σ ns good logged.
-        subst (λ (y : Generated). Ran img bytes w′ lay (g .log) r y (unify-all (registry-of img bytes) σ (g .left) (y .equations)))
+        subst (Ran img bytes w′ lay (g .log) g r σ)
         (ap (λ (ns : Names-log). parts img bytes f at ns (g .next)) (nothing-logged logged refl) ∙ parts-are (g .next))
         (x .means σ ns good logged);
   }

@@ -3,6 +3,7 @@ use Prim.Native.Nat.{ℕ, zero, suc, _+_, _≤_, _<_}
 use mathlib.Core.Path.{_≡_, refl, sym, _∙_, subst}
 use mathlib.Core.List.{List, [], _∷_, map}
 use native.Mathlib.Omega.{arith}
+use lib.ListN.{length}
 use Rattle.image.specs.Program.{program}
 use Rattle.unifier_definition.specs.Unify.{Equation}
 use Rattle.run_definition.specs.Equations.{Names-log, Generated}
@@ -101,11 +102,11 @@ module _ {l : Row} {d : Doing l} {w₀ w : List ℕ} {g₀ g : Walk} {from n at 
 
 -- the same walk at another position
 abbrev pub moved : Walk → ℕ → Walk
-moved r k = record { left = r .left; top = r .top; refused = r .refused; next = r .next; log = r .log; at = k }
+moved r k = record { left = r .left; top = r .top; refused = r .refused; next = r .next; log = r .log; at = k; counts = r .counts }
 
 keeps-moved : {w w′ : List ℕ} {lay : Layout} {g r : Walk} (k : ℕ) → Walk-keeps w w′ lay g r → Walk-keeps w w′ lay g (moved r k)
 keeps-moved k h =
-    record { len = h .len; grows = h .grows; below = h .below; names = h .names; entries = h .entries; fewer = h .fewer; log-grows = h .log-grows; pays = λ z. let p = h .pays z in record { spent = p .spent; made = p .made; noted = p .noted } }
+    record { len = h .len; grows = h .grows; below = h .below; names = h .names; entries = h .entries; fewer = h .fewer; log-grows = h .log-grows; pays = λ z. let p = h .pays z in record { spent = p .spent; made = p .made; noted = p .noted; counted = p .counted } }
 
 solves-moved : {es : List ℕ → List Equation} {w w′ : List ℕ} {lay : Layout} {g r : Walk} (k : ℕ) → Solves-by es w w′ lay g r → Solves-by es w w′ lay g (moved r k)
 solves-moved k s = record {
@@ -114,6 +115,8 @@ solves-moved k s = record {
       record {
         keeps = keeps-moved k (h .keeps);
         log-same = h .log-same;
+        counts-same = h .counts-same;
+        plain = h .plain;
         next = h .next;
         means = λ reg σ good. let x = h .means reg σ good in record { finished = x .finished; ended = x .ended };
       };
@@ -123,13 +126,17 @@ generates-moved : {gen : Names-log → ℕ → Generated} {img bytes w w′ : Li
     → Generates gen img bytes w w′ lay stretch g (moved r k)
 generates-moved k h = record {
   keeps = keeps-moved k (h .keeps);
-  means = λ σ ns good logged. let x = h .means σ ns good logged in record { finished = x .finished; ended = x .ended };
+  means = λ σ ns good logged. let x = h .means σ ns good logged in record { finished = x .finished; counts = x .counts; ended = x .ended };
 }
 
 module _ (img : List ℕ) where
   pub phis-split : (at n : ℕ) → Phis-fit img at (suc n) → Phi-fits img at × Phis-fit img (after-phi img at) n
   phis-split at n (no-phi e h) = absurd (omega arith)
   phis-split at n (phi-then {m = m} e p r) = (p, subst (Phis-fit img (after-phi img at)) (omega arith) r)
+
+  phis-inside : {at n : ℕ} → Phis-fit img at n → at ≤ length img
+  phis-inside (no-phi e h) = h
+  phis-inside (phi-then e p r) = omega (arith, p .inside)
 
   -- phis
   unfoldable pub phis-row : Row
@@ -139,6 +146,11 @@ module _ (img : List ℕ) where
   pub instructions-split : (f at n : ℕ) → Instructions-fit img f at (suc n) → Instruction-of-fits img f at × Instructions-fit img f (after-instruction img at) n
   instructions-split f at n (no-instruction e h) = absurd (omega arith)
   instructions-split f at n (instruction-then {m = m} e p r) = (p, subst (Instructions-fit img f (after-instruction img at)) (omega arith) r)
+
+  instructions-inside : {f at n : ℕ} → Instructions-fit img f at n → at ≤ length img
+  unfolding after-instruction
+  instructions-inside (no-instruction e h) = h
+  instructions-inside (instruction-then e p r) = omega (arith, p .fits .inside)
 
   -- instructions of function f
   unfoldable pub instructions-row : ℕ → Row
@@ -195,6 +207,11 @@ module _ (img : List ℕ) where
         let p = program img bytes in
         generating (λ at ns k. generate-block p (generate-for p) ns k (block-at img at)) (λ at n ns k. generate-blocks p (generate-for p) ns k (blocks-at img at n)) (λ at ns k. refl) (λ at n ns k. refl)
 
+-- where reading goes on fits a word
+pub phis-short : (img : List ℕ) (lay : Layout) {w₀ w : List ℕ} {g₀ g : Walk} {from n at k : ℕ} → Going (phis-doing img lay) w₀ w g₀ g from n at k → at < 4294967296
+unfolding phis-row phis-doing
+phis-short img lay h = omega (arith, phis-inside img (h .fits), h .asks .laid .short)
+
 module _ {img : List ℕ} {lay : Layout} {w₀ w : List ℕ} {g₀ g : Walk} {from n at k : ℕ} (h : Going (phis-doing img lay) w₀ w g₀ g from n at k) where
   -- phis of which one is refused
   pub phis-stopped : {w₁ : List ℕ} {g₁ : Walk} → k < n → Solves-by (λ bytes. phi-equation (program img bytes) (phi-at img at) ∷ []) w w₁ lay g g₁ → (g₁ .refused ≡ 0 → ⊥)
@@ -206,6 +223,11 @@ module _ {img : List ℕ} {lay : Layout} {w₀ w : List ℕ} {g₀ g : Walk} {fr
   pub phis-done : n ≤ k → Solves-phis img w₀ w lay from n g₀ (moved g at)
   unfolding phis-row phis-doing
   phis-done b = let d = going-done h b in record { solves = solves-moved at (d .0); lands = λ z. d .1 }
+
+pub instructions-short : (img bytes : List ℕ) (lay : Layout) (stretch f : ℕ) {w₀ w : List ℕ} {g₀ g : Walk} {from n at k : ℕ}
+    → Going (instructions-doing img bytes lay stretch f) w₀ w g₀ g from n at k → at < 4294967296
+unfolding instructions-row instructions-doing generating
+instructions-short img bytes lay stretch f h = omega (arith, instructions-inside img (h .fits), h .asks .solving .laid .short)
 
 module _ {img bytes : List ℕ} {lay : Layout} {stretch : ℕ} (f : ℕ) {w₀ w : List ℕ} {g₀ g : Walk} {from n at k : ℕ} (h : Going (instructions-doing img bytes lay stretch f) w₀ w g₀ g from n at k) where
   -- instructions of which one is refused

@@ -166,7 +166,7 @@ fn generate_instructions(
         }
         at = after_rows(img, at + 3, 3);
     }
-    g.at = at;
+    g.at = at as u32;
     g
 }
 
@@ -185,7 +185,7 @@ fn generate_phis(img: &[u32], w: &mut [u32], lay: Layout, g0: Walk, from: usize,
         }
         at = after_rows(img, at + 1, 1);
     }
-    g.at = at;
+    g.at = at as u32;
     g
 }
 
@@ -208,7 +208,7 @@ fn generate_block(
     if refused != 0 {
         return h;
     }
-    let a = h.at;
+    let a = h.at as usize;
     generate_instructions(img, bytes, w, lay, h, f, stretch, a + 1, img[a])
 }
 
@@ -234,7 +234,7 @@ fn generate_blocks(
         if refused != 0 {
             return g;
         }
-        at = g.at + 2;
+        at = g.at as usize + 2;
     }
     g
 }

@@ -15,18 +15,25 @@ use Rattle.image.specs.Kind.{Kind, PropertyLoad, PropertyStore, ComputedLoad, C
 use Rattle.image.specs.Body.{aux-fits}
 use Rattle.image.specs.Program.{Program, program}
 use Rattle.unifier_definition.specs.Log.{Log}
-use Rattle.unifier_definition.specs.Property.{PropertyNameKind, string, computed, Access, Registry}
-use Rattle.unifier_definition.specs.Unify.{Equation, _≐_, _≐-property_, unify-property, unify-equation, unify-all}
-use Rattle.unifier_nodes.specs.Work.{Rep, rep-var}
+use Rattle.unifier_definition.specs.Property.{PropertyNameKind, string, computed}
+use Rattle.unifier_definition.specs.Unify.{Equation, _≐_, _≐-property_, unify-equation}
+use Rattle.unifier_definition.specs.Counts.{counted, access-lookup, lookup-made}
+use Rattle.unifier_nodes.specs.Work.{Rep, rep-var, Good}
 use Rattle.unifier_nodes.specs.Promises.{Keeps}
 use Rattle.unifier_properties.specs.Lookup.{registry-of, key-name, Key-inside}
-use Rattle.unifier.specs.Accesses.{Access-asked, Accesses}
+use Rattle.unifier_counts.specs.Given.{given-by, counts-of, lookups, counted-by}
+use Rattle.unifier_counts.specs.declared.Counts.{Counts}
+use Rattle.unifier_counts.specs.declared.GivenBy.{GivenBy}
+use Rattle.unifier.specs.Accesses.{unify-access, Access-asked, Accesses}
+use Rattle.unifier.specs.declared.access.Accessed.{Accessed}
 use Rattle.unifier_properties.specs.declared.Key.{Key}
 use Rattle.unifier_properties.specs.declared.Key.the-variants.{Computed}
 use Rattle.unifier_nodes.specs.declared.state.State.{State}
 use Rattle.unifier_definition.proofs.Outcomes.{by-bool}
+use Rattle.unifier_definition.proofs.CountLaws.{total, count-one, counted-falls}
 use Rattle.unifier_nodes.proofs.Frames.{Same}
 use Rattle.unifier_properties.proofs.Registered.{registry-inside}
+use Rattle.unifier_counts.proofs.Counting.{counted-given}
 use Rattle.unifier.proofs.Accesses.{property-access}
 use Rattle.run_definition.specs.Items.{item-id}
 use Rattle.run_definition.specs.Equations.{Names-log, Generated, get-type, access, property-literal, callee-shape, generate-instruction-types}
@@ -43,7 +50,7 @@ use Rattle.run_definition.proofs.PositionLaws.{item-id-at, slot-is, name-is}
 use Rattle.run_definition.proofs.PositionsBody.{checked}
 use Rattle.run_equations.proofs.InstructionEquations.{get-type-at}
 use Rattle.run_walk.proofs.Composing.{Layout-at, layout-at, refuses-as, spent-walk, with-next, logged-same, generates-of, generates-same, generates-made, generates-spent, object-rep}
-use Rattle.run_walk.proofs.Equating.{starts, walk-after, then-nothing, log-beyond}
+use Rattle.run_walk.proofs.Equating.{starts, walk-after, one-equation, log-beyond}
 
 -- the part of these equations
 abbrev pub Does : (Names-log → List Equation) → (img bytes w w′ : List ℕ) (lay : Layout) (stretch : ℕ) (g r : Walk) → Type 0
@@ -52,11 +59,6 @@ Does es img bytes w w′ lay stretch g r = Generates (λ ns k. only (es ns) ns k
 -- the part of an instruction of this kind
 abbrev pub Runs : Kind → (img bytes w w′ : List ℕ) (lay : Layout) (stretch place : ℕ) (g r : Walk) → Type 0
 Runs kind img bytes w w′ lay stretch place g r = Generates (λ ns k. generate-instruction-types (program img bytes) ns k (instruction-at img place) kind) img bytes w w′ lay stretch g r
-
--- one access alone
-one-property : (reg : Registry) (σ : Log) (s : ℕ) (t : Ty) (x : Access) → unify-all reg σ s (t ≐-property x ∷ []) ≡ unify-property reg σ s t x
-unfolding unify-all unify-equation
-one-property reg σ s t x = then-nothing (unify-property reg σ s t x)
 
 -- the names log lies in the work words
 layout-inside : {img : List ℕ} {budget : ℕ} {lay : Layout} → Layout-at img budget lay → Laid img → lay .entries ≤ 8 * (length img + budget)
@@ -76,13 +78,21 @@ pub generates-logged : {img bytes w w₁ : List ℕ} {lay : Layout} {stretch : �
 generates-logged {img} {bytes} {w₁ = w₁} {lay} {stretch} {g} {g₁} e f = record {
   keeps = f .keeps;
   means = λ σ ns good logged.
-      subst (λ (x : Generated). Ran img bytes w₁ lay stretch g₁ x (unify-all (registry-of img bytes) σ (g .left) (x .equations))) (e ns logged) (f .means σ ns good logged);
+      subst (Ran img bytes w₁ lay stretch g g₁ σ) (e ns logged) (f .means σ ns good logged);
 }
 
+-- the walk with other counts
+abbrev pub with-counts : Walk → Counts → Walk
+with-counts g counts = record { left = g .left; top = g .top; refused = g .refused; next = g .next; log = g .log; at = g .at; counts = counts }
+
+-- a lookup can be counted
+pub countable : {img w : List ℕ} {lay : Layout} {g : Walk} → Solving img w lay g → lookups (g .counts) < 65535
+countable s = omega (arith, s .counted, s .few)
+
 -- what the unifier keeps
-unified-keeps : {img w w′ : List ℕ} {lay : Layout} {g : Walk} {st : State} → Solving img w lay g → Keeps w w′ (lay .lo) (starts g (g .top) (lay .stack)) st
-    → Walk-keeps w w′ lay g (walk-after g st)
-unified-keeps s k =
+unified-keeps : {img w w′ : List ℕ} {lay : Layout} {g : Walk} {st : State} {counts : Counts} → Solving img w lay g → Keeps w w′ (lay .lo) (starts g (g .top) (lay .stack)) st
+    → (st .refused ≡ 0 → 2 * lookups counts + st .left ≤ 2 * lookups (g .counts) + g .left) → Walk-keeps w w′ lay g (with-counts (walk-after g st) counts)
+unified-keeps s k counted =
     let (l, n) = log-beyond s in
     let f = k .frame in
     let p = k .paid in
@@ -95,7 +105,7 @@ unified-keeps s k =
       entries = λ j o. f .beyond j (omega arith);
       fewer = q;
       log-grows = omega arith;
-      pays = λ e. record { spent = p .spent; made = omega arith; noted = omega arith };
+      pays = λ e. record { spent = p .spent; made = omega arith; noted = omega arith; counted = counted e };
     }
 
 module _ {img bytes w : List ℕ} {lay : Layout} {stretch : ℕ} {g : Walk} where
@@ -128,27 +138,62 @@ module _ {img bytes w : List ℕ} {lay : Layout} {stretch : ℕ} {g : Walk} wher
           refs = record { use-ref = rw u (object-rep s 1 (omega arith)); ref-value = rw v (object-rep s 7 (omega arith)) };
         }
 
-    -- what it comes to
-    pub property-generates : {b : Bool} {w′ : List ℕ} {st : State} {r : Walk} → Tells-ref img bytes w stretch (g .log) id key b
-        → Accesses img bytes w w′ (lay .lo) (starts g (g .top) (lay .stack)) slot obj key b st → r ≡ walk-after g st
-        → Does (λ ns. var slot ≐-property access (program img bytes) ns id (key-name img bytes key) ∷ []) img bytes w w′ lay stretch g r
-    unfolding only access get-type
-    property-generates {w′ = w′} t h q =
-        let keeps = unified-keeps (a .ready .solving) (h .binds .keeps) in
-        rw q (record {
-          keeps = keeps;
-          means = λ σ ns good logged.
-              let o = a .ready .opened in
-              let same : Same w w′ stretch (g .log) = λ k l b. keeps .names k (omega arith) b in
-              let x = access (program img bytes) ns id (key-name img bytes key) in
-              let y = h .binds .means σ (var slot) (var obj) good slot-rep object-rep-of in
-              let u = ap var (slot-is img bytes id (a .id-inside) ∙ sym d) in
-              let e = one-property (registry-of img bytes) σ (g .left) (var slot) x ∙ property-access (registry-of img bytes) σ (g .left) (var slot) x u (sym (t .is ns logged)) in
-              record {
-                finished = λ z. let f = y .finished z in (f .0, e ∙ f .1, f .2, logged-same same logged, refl);
-                ended = λ z. refuses-as e (y .ended z);
-              };
-        })
+    -- the equation
+    abbrev equation : Names-log → Equation
+    equation ns = var slot ≐-property access (program img bytes) ns id (key-name img bytes key)
+
+    module _ {b : Bool} {w′ : List ℕ} {x : Accessed} (t : Tells-ref img bytes w stretch (g .log) id key b) (h : Accesses img bytes w w′ (lay .lo) (starts g (g .top) (lay .stack)) slot obj key b x) where
+      module _ (ns : Names-log) (logged : Logged img bytes w stretch (g .log) ns) where
+        object-is : access (program img bytes) ns id (key-name img bytes key) .object-type ≡ var obj
+        unfolding access get-type
+        object-is = ap var (slot-is img bytes id (a .id-inside) ∙ sym d)
+
+        -- what `unify` makes of it
+        comes : (σ : Log) → unify-equation (registry-of img bytes) σ (g .left) (equation ns) ≡ unify-access b (registry-of img bytes) (key-name img bytes key) σ (g .left) (var slot) (var obj)
+        unfolding unify-equation access
+        comes σ = property-access (registry-of img bytes) σ (g .left) (var slot) (access (program img bytes) ns id (key-name img bytes key)) object-is (sym (t .is ns logged))
+
+        -- the lookup that it makes
+        looks-up : (σ : Log) → lookup-made (registry-of img bytes) σ (g .left) (equation ns) ≡ access-lookup b (registry-of img bytes) (key-name img bytes key) σ (g .left) (var obj)
+        unfolding lookup-made access
+        looks-up σ = rw (← t .is ns logged, object-is)
+
+      -- what gave the property its type is counted
+      counts-one : (σ : Log) (ns : Names-log) → Good w (lay .lo) (g .top) σ → Logged img bytes w stretch (g .log) ns
+          → counts-of (counted-by (g .counts) (x .given)) ≡ counted (counts-of (g .counts)) (lookup-made (registry-of img bytes) σ (g .left) (equation ns))
+      counts-one σ ns good logged =
+          ap (λ (v : GivenBy). counts-of (counted-by (g .counts) v)) (h .given σ (var obj) good object-rep-of ∙ ap given-by (sym (looks-up ns logged σ)))
+          ∙ counted-given (g .counts) (lookup-made (registry-of img bytes) σ (g .left) (equation ns))
+
+      -- its steps pay for the lookup
+      counted-pays : x .state .refused ≡ 0 → 2 * lookups (counted-by (g .counts) (x .given)) + x .state .left ≤ 2 * lookups (g .counts) + g .left
+      unfolding counts-of
+      counted-pays z =
+          let s = a .ready .solving in
+          let ns = a .ready .names in
+          let l = a .ready .logged in
+          let y = h .binds .means (s .σ) (var slot) (var obj) (s .good) slot-rep object-rep-of .finished z in
+          omega (arith, ap total (counts-one (s .σ) ns (s .good) l), counted-falls (registry-of img bytes) (s .σ) (g .left) (counts-of (g .counts)) (equation ns) (comes ns l (s .σ) ∙ y .1))
+
+      -- what it comes to
+      pub property-generates : {r : Walk} {counts : Counts} → r ≡ walk-after g (x .state) → counts ≡ counted-by (g .counts) (x .given)
+          → Does (λ ns. equation ns ∷ []) img bytes w w′ lay stretch g (with-counts r counts)
+      unfolding only
+      property-generates q c =
+          let keeps = unified-keeps (a .ready .solving) (h .binds .keeps) counted-pays in
+          rw (q, c) (record {
+            keeps = keeps;
+            means = λ σ ns good logged.
+                let o = a .ready .opened in
+                let same : Same w w′ stretch (g .log) = λ k l b. keeps .names k (omega arith) b in
+                let y = h .binds .means σ (var slot) (var obj) good slot-rep object-rep-of in
+                let e = one-equation (registry-of img bytes) σ (g .left) (equation ns) ∙ comes ns logged σ in
+                record {
+                  finished = λ z. let f = y .finished z in (f .0, e ∙ f .1, f .2, logged-same same logged, refl);
+                  counts = λ z. counts-one σ ns good logged ∙ sym (count-one (registry-of img bytes) σ (g .left) (counts-of (g .counts)) (equation ns));
+                  ended = λ z. refuses-as e (y .ended z);
+                };
+          })
 
   -- what `property` asks, of a slot of the image
   pub image-asked : {slot i id : ℕ} {key : Key} → Ready img bytes w lay stretch g → slot ≡ cell Identifiers img i 0 → i < count Identifiers img → id < count Identifiers img → Key-inside img key

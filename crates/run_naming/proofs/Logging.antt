@@ -28,7 +28,7 @@ use Rattle.run_layout.specs.declared.Layout.{Layout}
 use Rattle.run_walk.specs.declared.Walk.{Walk}
 use Rattle.run_definition.proofs.PositionLaws.{identifier-name-is}
 use Rattle.run_definition.proofs.PositionsBody.{checked}
-use Rattle.run_walk.proofs.Composing.{layout-at, solves-falls, logged-same, generates-of, generates-same, place-rep}
+use Rattle.run_walk.proofs.Composing.{layout-at, solves-falls, solves-counts, logged-same, generates-of, generates-same, place-rep}
 use Rattle.run_naming.proofs.Accessing.{Runs, entries-inside, equal-asked, left-is, first-inside, first-is, first-type}
 
 -- the name of an identifier that has one is in its table
@@ -43,7 +43,7 @@ logging e id name ns k = record { equations = e ∷ []; names = set-name ns id n
 -- the equation is refused
 load-refused : {img bytes w w₁ : List ℕ} {lay : Layout} {stretch : ℕ} {g h : Walk} {e : Equation} (id : ℕ) (name : Option (List ℕ)) → Solves (e ∷ []) 0 w w₁ lay g h → (h .refused ≡ 0 → ⊥)
     → Generates (logging e id name) img bytes w w₁ lay stretch g h
-load-refused {img} {bytes} id name f z = record { keeps = f .keeps; means = λ σ ns good logged. record { finished = λ o. absurd (z o); ended = f .means (registry-of img bytes) σ good .ended } }
+load-refused {img} {bytes} id name f z = record { keeps = f .keeps; means = λ σ ns good logged. record { finished = λ o. absurd (z o); counts = λ o. absurd (z o); ended = f .means (registry-of img bytes) σ good .ended } }
 
 -- the equation is done
 module _ {img bytes w w₁ : List ℕ} {lay : Layout} {stretch source : ℕ} {g h : Walk} {e : Equation} (a : Ready img bytes w lay stretch g) (f : Solves (e ∷ []) 0 w w₁ lay g h)
@@ -73,7 +73,7 @@ module _ {img bytes w w₁ : List ℕ} {lay : Layout} {stretch source : ℕ} {g 
       record { laid = a .solving .laid; source-inside = known; room = omega arith; small = omega arith }
 
   module _ {w₂ : List ℕ} {r : Walk} {id : ℕ} (v : Logs-name img w₁ w₂ h id source r) where
-    keeps-logged : r ≡ record { left = h .left; top = h .top; refused = h .refused; next = h .next; log = h .log + 2; at = h .at } → Walk-keeps w w₂ lay g r
+    keeps-logged : r ≡ record { left = h .left; top = h .top; refused = h .refused; next = h .next; log = h .log + 2; at = h .at; counts = h .counts } → Walk-keeps w w₂ lay g r
     keeps-logged q =
         let k = f .keeps in
         let p = k .pays z in
@@ -89,7 +89,7 @@ module _ {img bytes w w₁ : List ℕ} {lay : Layout} {stretch source : ℕ} {g 
           entries = λ m l. v .above m (omega arith) ∙ k .entries m l;
           fewer = k .fewer;
           log-grows = omega arith;
-          pays = λ o. record { spent = p .spent; made = p .made; noted = omega arith };
+          pays = λ o. record { spent = p .spent; made = p .made; noted = omega arith; counted = p .counted };
         })
 
     -- an identifier without a name
@@ -126,6 +126,7 @@ module _ {img bytes w w₁ : List ℕ} {lay : Layout} {stretch source : ℕ} {g 
                   one-logged {k = h .log} {ns = ns} refl (omega arith) first (omega arith) (ap (name-at img bytes) second) (rw j (logged-same same logged)),
                   omega (arith, f .next z),
                 );
+                counts = λ i. solves-counts (registry-of img bytes) σ (g .left) f z;
                 ended = λ i. absurd (i z);
               });
         }

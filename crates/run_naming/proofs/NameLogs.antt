@@ -179,7 +179,7 @@ logs-none e z = record { len = refl; below = λ k l. refl; above = λ k l. refl;
 
 -- one with a name
 pub logs-named : {img w : List ℕ} {g : Walk} {source n : ℕ} (id : ℕ) → Log-asked img w g source → n ≡ cell Identifiers img source 1 → (n ≡ NONE → ⊥)
-    → Logs-name img w (set (set w (g .log) id) (g .log + 1) n) g id source (record { left = g .left; top = g .top; refused = g .refused; next = g .next; log = g .log + 2; at = g .at })
+    → Logs-name img w (set (set w (g .log) id) (g .log + 1) n) g id source (record { left = g .left; top = g .top; refused = g .refused; next = g .next; log = g .log + 2; at = g .at; counts = g .counts })
 logs-named {w = w} {g} {n = n} id a e z =
     let v : List ℕ = set w (g .log) id in
     let lv = length-set w (g .log) id in

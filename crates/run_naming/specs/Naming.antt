@@ -69,7 +69,7 @@ pub record Logs-name (img w w′ : List ℕ) (g : Walk) (id source : ℕ) (r : W
   pub above : (k : ℕ) → g .log + 2 ≤ k → at w′ k ≡ at w k
   pub unnamed : cell Identifiers img source 1 ≡ NONE → (w′ ≡ w) × (r ≡ g)
   pub named : (cell Identifiers img source 1 ≡ NONE → ⊥) → (at w′ (g .log) ≡ id) × (at w′ (g .log + 1) ≡ cell Identifiers img source 1)
-      × (r ≡ record { left = g .left; top = g .top; refused = g .refused; next = g .next; log = g .log + 2; at = g .at })
+      × (r ≡ record { left = g .left; top = g .top; refused = g .refused; next = g .next; log = g .log + 2; at = g .at; counts = g .counts })
 
 -- what an item of a pattern asks: the identifier of the pattern's value, and an item
 pub record Element-asked (img bytes w : List ℕ) (lay : Layout) (stretch : ℕ) (g : Walk) (value place : ℕ) : Type 0 where

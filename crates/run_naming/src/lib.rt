@@ -35,6 +35,7 @@ use run_walk::var_at;
 use run_walk::walked;
 use unifier::access::Places;
 use unifier::access::unify_property;
+use unifier_counts::counted;
 use unifier_nodes::state::State;
 use unifier_properties::Key;
 
@@ -123,7 +124,7 @@ fn property(
     let stack = lay.stack;
     let use_ref = object_of(lay, shapes::BUILT_IN_USE_REF_ID);
     let ref_value = object_of(lay, shapes::BUILT_IN_REF_VALUE_ID);
-    let st = unify_property(
+    let accessed = unify_property(
         img,
         bytes,
         w,
@@ -144,7 +145,10 @@ fn property(
         key,
         ref_like,
     );
-    walked(g, st)
+    let given = accessed.given;
+    let mut h = walked(g, accessed.state);
+    h.counts = counted(g.counts, given);
+    h
 }
 
 // The name of a property, NONE for a number.

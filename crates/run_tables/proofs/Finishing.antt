@@ -14,8 +14,11 @@ use Rattle.unifier_nodes.proofs.Frames.{rep-same, rep-low, good-same}
 use Rattle.run_definition.specs.Tables.{made-types, binding-rows, written-binding, tables-of}
 use Rattle.run_tables.specs.Lent.{put, answer-of}
 use Rattle.run_tables.specs.Standing.{Resolved-run, all-types, Finishes}
+use Rattle.unifier_definition.specs.Counts.{no-lookups}
+use Rattle.unifier_counts.specs.Given.{counts-of}
+use Rattle.unifier_counts.specs.declared.Counts.{Counts}
 use Rattle.run_definition.specs.Infer.{refusal, with-tables}
-use Rattle.run_tables.specs.Writing.{Sink, counting, Row, Asks-row, Emits-row, Asks-bindings, Emits-bindings, Counts, Writes}
+use Rattle.run_tables.specs.Writing.{Sink, counting, Row, Asks-row, Emits-row, Asks-bindings, Emits-bindings, Sizes, Writes}
 use Rattle.run_layout.specs.declared.Layout.{Layout}
 use Rattle.run_tables.specs.declared.Size.{Size}
 use Rattle.run_definition.proofs.Lists.{tabulate-length}
@@ -98,11 +101,11 @@ module _ {w : List ℕ} {lay : Layout} {made : ℕ} {σ : Log} {types : List Ty}
       let f = R .first in
       omega (arith, length-append types (made-types (lay .slots) made), tabulate-length var (lay .slots) (made - lay .slots))
 
-module _ {w : List ℕ} {lay : Layout} {made : ℕ} {size : Size} (C : Counts w lay made size) {t : List ℕ} (steps : ℕ) where
+module _ {w : List ℕ} {lay : Layout} {made : ℕ} {size : Size} (C : Sizes w lay made size) {t : List ℕ} (steps : ℕ) (counts : Counts) where
   -- the tables are longer than the lent words
   pub too-long : length t < size .words
-      → Finishes w lay made steps t t (record { number = 14; steps = steps; slots = 0; bindings = 0; «table_words» = size .words })
-  unfolding answer-of with-tables refusal put
+      → Finishes w lay made steps counts t t (record { number = 14; steps = steps; slots = 0; bindings = 0; «table_words» = size .words; exact = 0; star = 0; hook = 0; nothing = 0 })
+  unfolding answer-of with-tables refusal no-lookups put
   too-long l =
       record {
         answers = λ σ types R. let e = C .words σ types R in rw (lt-leb (length (tables R)) (length t) (omega arith), with-tables) (cc);
@@ -111,8 +114,8 @@ module _ {w : List ℕ} {lay : Layout} {made : ℕ} {size : Size} (C : Counts w 
 
   -- or they are written
   pub all-written : {t′ : List ℕ} → size .words ≤ length t → Writes w lay made t t′
-      → Finishes w lay made steps t t′ (record { number = 0; steps = steps; slots = made; bindings = size .bindings; «table_words» = size .words })
-  unfolding answer-of with-tables put
+      → Finishes w lay made steps counts t t′ (record { number = 0; steps = steps; slots = made; bindings = size .bindings; «table_words» = size .words; exact = counts .exact; star = counts .star; hook = counts .hook; nothing = counts .nothing })
+  unfolding answer-of with-tables counts-of put
   all-written l W =
       record {
         answers = λ σ types R.

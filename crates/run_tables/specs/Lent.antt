@@ -11,7 +11,15 @@ put t from ws = take from t ++ (ws ++ drop (from + length ws) t)
 
 -- the answer in the definition's terms
 unfoldable pub answer-of : Answered → Answer
-answer-of a = record { number = a .number; steps = a .steps; slots = a .slots; bindings = a .bindings; table-words = a .«table_words» }
+answer-of a =
+    record {
+      number = a .number;
+      steps = a .steps;
+      slots = a .slots;
+      bindings = a .bindings;
+      table-words = a .«table_words»;
+      counts = record { exact = a .exact; star = a .star; hook = a .hook; nothing = a .nothing };
+    }
 
 -- the first n words 0
 unfoldable pub cleared : ℕ → List ℕ → List ℕ

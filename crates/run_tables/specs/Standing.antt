@@ -8,6 +8,8 @@ use Rattle.unifier_definition.specs.Log.{Log}
 use Rattle.unifier_nodes.specs.Work.{at, Rep, Good}
 use Rattle.run_definition.specs.Tables.{made-types, binding-rows, tables-of}
 use Rattle.run_definition.specs.Infer.{with-tables}
+use Rattle.unifier_counts.specs.Given.{counts-of}
+use Rattle.unifier_counts.specs.declared.Counts.{Counts}
 use Rattle.run_tables.specs.Lent.{put, answer-of}
 use Rattle.run_layout.specs.declared.Layout.{Layout}
 use Rattle.run_tables.specs.declared.Answer.{Answer as Answered}
@@ -40,8 +42,8 @@ pub record Finish-asked (w : List ℕ) (lay : Layout) (made : ℕ) : Type 0 wher
   pub few : length (tables-of (all-types lay made types) (binding-rows σ made)) < 2 ^ 32
 
 -- the contract of `finish`: the answer and the table words of the definition, 14 included
-pub record Finishes (w : List ℕ) (lay : Layout) (made steps : ℕ) (t t′ : List ℕ) (r : Answered) : Type 0 where
+pub record Finishes (w : List ℕ) (lay : Layout) (made steps : ℕ) (counts : Counts) (t t′ : List ℕ) (r : Answered) : Type 0 where
   pub answers : (σ : Log) (types : List Ty) → Resolved-run w lay made σ types
-      → answer-of r ≡ with-tables (length t) steps (all-types lay made types) (binding-rows σ made) .answer
+      → answer-of r ≡ with-tables (length t) steps (counts-of counts) (all-types lay made types) (binding-rows σ made) .answer
   pub writes : (σ : Log) (types : List Ty) → Resolved-run w lay made σ types
-      → t′ ≡ put t 0 (with-tables (length t) steps (all-types lay made types) (binding-rows σ made) .tables)
+      → t′ ≡ put t 0 (with-tables (length t) steps (counts-of counts) (all-types lay made types) (binding-rows σ made) .tables)

@@ -80,12 +80,12 @@ module _ {S : Type 0} (k : Sink S) (w : List ℕ) (lo : ℕ) where
     pub is : (σ : Log) → Good w lo (length w) σ → s′ ≡ k .emit s (flatMap written-binding (binding-rows σ made))
 
 -- the promise of `bindings_size`
-pub record Counts-bindings (w : List ℕ) (lo made words : ℕ) (r : Size) : Type 0 where
+pub record Sizes-bindings (w : List ℕ) (lo made words : ℕ) (r : Size) : Type 0 where
   pub emits : Emits-bindings counting w lo made words (r .words)
   pub many : (σ : Log) → Good w lo (length w) σ → r .bindings ≡ length (binding-rows σ made)
 
 -- the promise of `total_size`
-pub record Counts (w : List ℕ) (lay : Layout) (made : ℕ) (r : Size) : Type 0 where
+pub record Sizes (w : List ℕ) (lay : Layout) (made : ℕ) (r : Size) : Type 0 where
   pub words : (σ : Log) (types : List Ty) → Resolved-run w lay made σ types → r .words ≡ length (tables-of (all-types lay made types) (binding-rows σ made))
   pub bindings : (σ : Log) (types : List Ty) → Resolved-run w lay made σ types → r .bindings ≡ length (binding-rows σ made)
 

@@ -6,13 +6,15 @@ ghost use lib.ListN.{length};
 ghost use Rattle.image.specs.Ty.{written};
 ghost use Rattle.run_definition.specs.Tables.{made-types};
 ghost use Rattle.run_tables.specs.Standing.{Finish-asked, Finishes};
-ghost use Rattle.run_tables.specs.Writing.{counting, writing, table, Asks, Emits, Asks-row, Emits-row, Asks-bindings, Emits-bindings, Counts-bindings, Counts, Write-asked, Writes};
+ghost use Rattle.run_tables.specs.Writing.{counting, writing, table, Asks, Emits, Asks-row, Emits-row, Asks-bindings, Emits-bindings, Sizes-bindings, Sizes, Write-asked, Writes};
 use image::refusals;
 use image::type_kinds;
 use run_layout::Layout;
+use unifier_counts::Counts;
 use unifier_nodes::node::Node;
 use unifier_nodes::node::node_at;
 
+// Document 01's answer, and document 02's four counts of lookups: by the exact name, the "*" entry, the hook rule, and nothing.
 #[repr(C)]
 pub struct Answer {
     pub number: u32,
@@ -20,6 +22,10 @@ pub struct Answer {
     pub slots: u32,
     pub bindings: u32,
     pub table_words: u32,
+    pub exact: u32,
+    pub star: u32,
+    pub hook: u32,
+    pub nothing: u32,
 }
 
 // Words of the tables, and rows of the binding table.
@@ -62,7 +68,7 @@ fn list_size(w: &[u32], lo: u32, last: u32, at: u32, count: u32, start: u32) -> 
 // The same of the bindings, which are counted too.
 fn bindings_size(w: &[u32], lo: u32, made: u32, start: u32) -> Size
     requires { ⌜ Asks-bindings counting (now w) lo made start ⌝ }
-    ensures { λ r. ⌜ Counts-bindings (now (w .entry)) lo made start r ⌝ }
+    ensures { λ r. ⌜ Sizes-bindings (now (w .entry)) lo made start r ⌝ }
 {
     let mut words = start;
     let mut bindings: u32 = 0;
@@ -80,7 +86,7 @@ fn bindings_size(w: &[u32], lo: u32, made: u32, start: u32) -> Size
 
 fn total_size(w: &[u32], lay: Layout, made: u32) -> Size
     requires { ⌜ Finish-asked (now w) lay made ⌝ }
-    ensures { λ r. ⌜ Counts (now (w .entry)) lay made r ⌝ }
+    ensures { λ r. ⌜ Sizes (now (w .entry)) lay made r ⌝ }
 {
     let words = list_size(w, lay.lo, w.len() as u32, lay.entries, lay.slots, 0);
     bindings_size(w, lay.lo, made, words + 2 * (made - lay.slots))
@@ -188,12 +194,23 @@ fn write(w: &[u32], lay: Layout, made: u32, t: &mut [u32])
 }
 
 // The answer and the tables, or a refusal with the length that these want.
-pub fn finish(w: &[u32], lay: Layout, steps: u32, made: u32, t: &mut [u32]) -> Answer
+pub fn finish(
+    w: &[u32],
+    lay: Layout,
+    steps: u32,
+    made: u32,
+    counts: Counts,
+    t: &mut [u32],
+) -> Answer
     requires { ⌜ Finish-asked (now w) lay made ⌝ }
-    ensures { λ r. ⌜ Finishes (now (w .entry)) lay made steps (now (t .entry)) (now (t .exit)) r ⌝ }
+    ensures { λ r. ⌜ Finishes (now (w .entry)) lay made steps counts (now (t .entry)) (now (t .exit)) r ⌝ }
 {
     let size = total_size(w, lay, made);
     let table_words = size.words;
+    let exact = counts.exact as u32;
+    let star = counts.star as u32;
+    let hook = counts.hook as u32;
+    let nothing = counts.nothing as u32;
     if table_words as usize > t.len() {
         return Answer {
             number: refusals::TABLE_WORDS,
@@ -201,6 +218,10 @@ pub fn finish(w: &[u32], lay: Layout, steps: u32, made: u32, t: &mut [u32]) -> A
             slots: 0,
             bindings: 0,
             table_words,
+            exact: 0,
+            star: 0,
+            hook: 0,
+            nothing: 0,
         };
     }
     write(w, lay, made, t);
@@ -211,5 +232,9 @@ pub fn finish(w: &[u32], lay: Layout, steps: u32, made: u32, t: &mut [u32]) -> A
         slots: made,
         bindings,
         table_words,
+        exact,
+        star,
+        hook,
+        nothing,
     }
 }

@@ -13,21 +13,25 @@ use Rattle.unifier_definition.specs.Log.{Log}
 use Rattle.unifier_definition.specs.Outcome.{Outcome, done, refused, out-of-steps, number-of, and-then}
 use Rattle.unifier_definition.specs.Property.{Registry}
 use Rattle.unifier_definition.specs.Unify.{Equation, _≐_, _≐-property_, unify-property, unify-equation, unify-all}
+use Rattle.unifier_definition.specs.Counts.{count-lookups}
 use Rattle.unifier_nodes.specs.Work.{at, Rep, rep-var, Good}
 use Rattle.unifier_nodes.specs.Walks.{Refuses}
 use Rattle.unifier_properties.specs.Lookup.{registry-of}
+use Rattle.unifier_counts.specs.Given.{counts-of}
 use Rattle.unifier_nodes.proofs.Frames.{Same, rep-same}
 use Rattle.unifier_definition.proofs.Fuel.{unify-none}
 use Rattle.unifier_nodes.proofs.Getting.{by-zero, refuses-then}
 use Rattle.unifier_definition.proofs.RunLaws.{unify-all-append}
+use Rattle.unifier_definition.proofs.CountLaws.{count-append}
 use Rattle.run_definition.specs.Equations.{Names-log, Generated}
 use Rattle.run_definition.specs.Generate.{only, followed-by}
 use Rattle.run_layout.specs.Layout.{layout-of, Prepared}
-use Rattle.run_walk.specs.Solving.{place-type, Solving, Walk-keeps, Comes-to, Solves, Solves-next}
+use Rattle.run_walk.specs.Solving.{place-type, Solving, Walk-keeps, Comes-to, plain-none, Solves, Solves-next}
 use Rattle.run_walk.specs.Running.{Logged, none-logged, one-logged, Ready, Ran, Generates}
 use Rattle.run_layout.specs.declared.Layout.{Layout}
 use Rattle.run_walk.specs.declared.Walk.{Walk}
 use Rattle.run_definition.proofs.Falling.{unify-all-falls}
+use Rattle.run_walk.proofs.Plain.{plain-append, count-plain}
 
 -- where each part of a layout starts, by the part before it
 pub record Layout-at (img : List ℕ) (budget : ℕ) (lay : Layout) : Type 0 where
@@ -81,7 +85,7 @@ keeps-all = record {
   entries = λ k l. refl;
   fewer = omega arith;
   log-grows = omega arith;
-  pays = λ e. record { spent = omega arith; made = omega arith; noted = omega arith };
+  pays = λ e. record { spent = omega arith; made = omega arith; noted = omega arith; counted = omega arith };
 }
 
 -- what one part keeps, and then another
@@ -102,7 +106,7 @@ keeps-then f z h =
       entries = λ k l. h .entries k l ∙ f .entries k l;
       fewer = omega arith;
       log-grows = omega arith;
-      pays = λ e. let q = h .pays e in record { spent = omega arith; made = omega arith; noted = omega arith };
+      pays = λ e. let q = h .pays e in record { spent = omega arith; made = omega arith; noted = omega arith; counted = omega arith };
     }
 
 -- what a part asks is there again after a part that was not refused
@@ -113,6 +117,8 @@ solving-kept {σ = σ} s k z good =
     let a = p .spent in
     let b = p .made in
     let c = p .noted in
+    let n = p .counted in
+    let m = s .counted in
     let d = k .fewer in
     let f = s .fewer in
     let i = s .slots in
@@ -134,6 +140,7 @@ solving-kept {σ = σ} s k z good =
       room = record { heap = omega arith; hand = omega arith; small = omega arith };
       slots = omega arith;
       entries = omega arith;
+      counted = omega arith;
       opened = omega arith;
       running = z;
       σ = σ;
@@ -169,7 +176,7 @@ all-none reg σ s e es z = rw z (ap (λ o. and-then o (λ σ₁ s₁. unify-all 
 
 -- the answer of `spent`
 abbrev pub spent-walk : Walk → Walk
-spent-walk g = record { left = g .left; top = g .top; refused = 13; next = g .next; log = g .log; at = g .at }
+spent-walk g = record { left = g .left; top = g .top; refused = 13; next = g .next; log = g .log; at = g .at; counts = g .counts }
 
 keeps-spent : {w : List ℕ} {lay : Layout} {g r : Walk} → r ≡ spent-walk g → Walk-keeps w w lay g r
 keeps-spent {w} {lay} {g} e = subst (Walk-keeps w w lay g) (sym e) (record {
@@ -195,7 +202,7 @@ spent-refuses {w} {lo} g reg σ e es z q good =
 
 -- the walk with another slot to be made next
 abbrev pub with-next : Walk → ℕ → Walk
-with-next g n = record { left = g .left; top = g .top; refused = g .refused; next = n; log = g .log; at = g .at }
+with-next g n = record { left = g .left; top = g .top; refused = g .refused; next = n; log = g .log; at = g .at; counts = g .counts }
 
 -- slots that the steps spent pay for
 keeps-made : {w w′ : List ℕ} {lay : Layout} {g r : Walk} {n : ℕ} → Walk-keeps w w′ lay g r → (r .refused ≡ 0 → n + r .left ≤ g .next + g .left) → Walk-keeps w w′ lay g (with-next r n)
@@ -207,7 +214,7 @@ keeps-made k made = record {
   entries = k .entries;
   fewer = k .fewer;
   log-grows = k .log-grows;
-  pays = λ e. record { spent = k .pays e .spent; made = made e; noted = k .pays e .noted };
+  pays = λ e. let p = k .pays e in record { spent = p .spent; made = made e; noted = p .noted; counted = p .counted };
 }
 
 -- some registry
@@ -224,6 +231,8 @@ module _ {w w₁ : List ℕ} {lay : Layout} {g g₁ : Walk} {es : List Equation}
   solves-made s f l q = record {
     keeps = keeps-made (f .keeps) (λ z. omega (arith, solves-falls s f z));
     log-same = f .log-same;
+    counts-same = f .counts-same;
+    plain = f .plain;
     next = λ z. q;
     means = λ reg σ good. let y = f .means reg σ good in record { finished = y .finished; ended = y .ended };
   }
@@ -231,6 +240,10 @@ module _ {w w₁ : List ℕ} {lay : Layout} {g g₁ : Walk} {es : List Equation}
   -- after a part that was not refused the next can ask the same
   pub solving-on : {img : List ℕ} → Solving img w lay g → Solves es m w w₁ lay g g₁ → g₁ .refused ≡ 0 → Solving img w₁ lay g₁
   solving-on s f z = solving-kept s (f .keeps) z (f .means no-registry (s .σ) (s .good) .finished z .2)
+
+  -- the counts are as they were
+  pub solves-counts : (reg : Registry) (σ : Log) (s : ℕ) → Solves es m w w₁ lay g g₁ → g₁ .refused ≡ 0 → counts-of (g₁ .counts) ≡ count-lookups reg σ s (counts-of (g .counts)) es
+  solves-counts reg σ s f z = ap counts-of (f .counts-same) ∙ sym (count-plain reg σ s (counts-of (g .counts)) (f .plain z))
 
   -- the same equations, another way
   pub solves-same : {fs : List Equation} → es ≡ fs → Solves es m w w₁ lay g g₁ → Solves fs m w w₁ lay g g₁
@@ -242,6 +255,8 @@ module _ {w w₁ : List ℕ} {lay : Layout} {g g₁ : Walk} {es : List Equation}
   solves-then {fs = fs} f z h = record {
     keeps = keeps-then (f .keeps) z (h .keeps);
     log-same = h .log-same ∙ f .log-same;
+    counts-same = h .counts-same ∙ f .counts-same;
+    plain = λ e. plain-append (f .plain z) (h .plain e);
     next = λ e. omega (arith, f .next z, h .next e);
     means = λ reg σ good.
         let y = f .means reg σ good .finished z in
@@ -253,6 +268,8 @@ module _ {w w₁ : List ℕ} {lay : Layout} {g g₁ : Walk} {es : List Equation}
   solves-stopped fs f z = record {
     keeps = f .keeps;
     log-same = f .log-same;
+    counts-same = f .counts-same;
+    plain = λ e. absurd (z e);
     next = λ e. absurd (z e);
     means = λ reg σ good. record { finished = λ e. absurd (z e); ended = λ e. append-refused reg σ (g .left) es fs (f .means reg σ good .ended e) };
   }
@@ -270,6 +287,8 @@ unfolding unify-all
 solves-none z = record {
   keeps = keeps-all;
   log-same = refl;
+  counts-same = refl;
+  plain = λ e. plain-none;
   next = λ e. omega arith;
   means = λ reg σ good. record { finished = λ e. (σ, refl, good); ended = λ e. absurd (e z) };
 }
@@ -279,6 +298,8 @@ pub solves-spent : {w : List ℕ} {lay : Layout} {g r : Walk} {e : Equation} {es
 solves-spent {g = g} {e = e} {es} z q = record {
   keeps = keeps-spent q;
   log-same = ap (λ (x : Walk). x .log) q;
+  counts-same = ap (λ (x : Walk). x .counts) q;
+  plain = λ n. absurd (spent-refused g q n);
   next = λ n. absurd (spent-refused g q n);
   means = λ reg σ good. record { finished = λ n. absurd (spent-refused g q n); ended = λ n. spent-refuses g reg σ e es z q good };
 }
@@ -302,6 +323,7 @@ module _ {img bytes w w₁ : List ℕ} {lay : Layout} {stretch : ℕ} {g g₁ : 
         let same : Same w w₁ stretch (g .log) = λ k l b. f .keeps .names k (omega arith) b in
         rw (e ns) (record {
           finished = λ z. (y .finished z .0, y .finished z .1, y .finished z .2, rw (f .log-same) (logged-same same logged), f .next z);
+          counts = solves-counts (registry-of img bytes) σ (g .left) f;
           ended = y .ended;
         });
   }
@@ -342,7 +364,7 @@ module _ {img bytes w w₁ : List ℕ} {lay : Layout} {stretch : ℕ} {g g₁ : 
       keeps = keeps-made (f .keeps) (λ z. omega (arith, generates-falls a f z, l (a .names)));
       means = λ σ ns good logged.
           let y = f .means σ ns good logged in
-          rw (e ns) (record { finished = λ z. let x = y .finished z in (x .0, x .1, x .2, x .3, q); ended = y .ended });
+          rw (e ns) (record { finished = λ z. let x = y .finished z in (x .0, x .1, x .2, x .3, q); counts = y .counts; ended = y .ended });
     }
 
     -- the same part, another way
@@ -350,8 +372,7 @@ module _ {img bytes w w₁ : List ℕ} {lay : Layout} {stretch : ℕ} {g g₁ : 
         → Generates gen′ img bytes w w₁ lay stretch g g₁
     generates-same e f = record {
       keeps = f .keeps;
-      means = λ σ ns good logged.
-          subst (λ (x : Generated). Ran img bytes w₁ lay stretch g₁ x (unify-all (registry-of img bytes) σ (g .left) (x .equations))) (e ns) (f .means σ ns good logged);
+      means = λ σ ns good logged. subst (Ran img bytes w₁ lay stretch g g₁ σ) (e ns) (f .means σ ns good logged);
     }
 
     -- one part after another
@@ -364,12 +385,16 @@ module _ {img bytes w w₁ : List ℕ} {lay : Layout} {stretch : ℕ} {g g₁ : 
           let reg = registry-of img bytes in
           let a = gen ns (g .next) in
           let y = f .means σ ns good logged .finished z in
-          let x : Ran img bytes w₂ lay stretch g₂ (gen′ (a .names) (a .slots)) (unify-all reg (y .0) (g₁ .left) (gen′ (a .names) (a .slots) .equations)) =
-          subst (λ (k : ℕ). Ran img bytes w₂ lay stretch g₂ (gen′ (a .names) k) (unify-all reg (y .0) (g₁ .left) (gen′ (a .names) k .equations))) (y .4)
-          (h .means (y .0) (a .names) (y .2) (y .3)) in
-          let e = append-done reg σ (g .left) (a .equations) (gen′ (a .names) (a .slots) .equations) (y .1) in
+          let x : Ran img bytes w₂ lay stretch g₁ g₂ (y .0) (gen′ (a .names) (a .slots)) =
+          subst (λ (k : ℕ). Ran img bytes w₂ lay stretch g₁ g₂ (y .0) (gen′ (a .names) k)) (y .4) (h .means (y .0) (a .names) (y .2) (y .3)) in
+          let es = gen′ (a .names) (a .slots) .equations in
+          let e = append-done reg σ (g .left) (a .equations) es (y .1) in
           record {
             finished = λ n. let q = x .finished n in (q .0, e ∙ q .1, q .2, q .3, q .4);
+            counts = λ n.
+                x .counts n
+                ∙ ap (λ c. count-lookups reg (y .0) (g₁ .left) c es) (f .means σ ns good logged .counts z)
+                ∙ sym (count-append reg σ (g .left) (counts-of (g .counts)) (a .equations) es (y .1));
             ended = λ n. refuses-as e (x .ended n);
           };
     }
@@ -384,6 +409,7 @@ module _ {img bytes w w₁ : List ℕ} {lay : Layout} {stretch : ℕ} {g g₁ : 
           let a = gen ns (g .next) in
           record {
             finished = λ n. absurd (z n);
+            counts = λ n. absurd (z n);
             ended = λ n. append-refused (registry-of img bytes) σ (g .left) (a .equations) (gen′ (a .names) (a .slots) .equations) (f .means σ ns good logged .ended n);
           };
     }
@@ -391,10 +417,10 @@ module _ {img bytes w w₁ : List ℕ} {lay : Layout} {stretch : ℕ} {g g₁ : 
 module _ {img bytes w : List ℕ} {lay : Layout} {stretch : ℕ} {g : Walk} where
   -- no equation
   pub generates-none : g .refused ≡ 0 → Generates (only []) img bytes w w lay stretch g g
-  unfolding only unify-all
+  unfolding only unify-all count-lookups
   generates-none z = record {
     keeps = keeps-all;
-    means = λ σ ns good logged. record { finished = λ e. (σ, refl, good, logged, refl); ended = λ e. absurd (e z) };
+    means = λ σ ns good logged. record { finished = λ e. (σ, refl, good, logged, refl); counts = λ e. refl; ended = λ e. absurd (e z) };
   }
 
   -- no step left for the first equation
@@ -406,6 +432,7 @@ module _ {img bytes w : List ℕ} {lay : Layout} {stretch : ℕ} {g : Walk} wher
         let x = some ns in
         record {
           finished = λ n. absurd (spent-refused g q n);
+          counts = λ n. absurd (spent-refused g q n);
           ended = λ n. rw (x .2) (spent-refuses g (registry-of img bytes) σ (x .0) (x .1) z q good);
         };
   }

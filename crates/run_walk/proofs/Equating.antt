@@ -8,14 +8,14 @@ use Rattle.image.specs.Ty.{Ty}
 use Rattle.unifier_definition.specs.Log.{Log}
 use Rattle.unifier_definition.specs.Outcome.{Outcome, done, refused, and-then}
 use Rattle.unifier_definition.specs.Property.{Registry}
-use Rattle.unifier_definition.specs.Unify.{_≐_, unify, unify-equation, unify-all}
+use Rattle.unifier_definition.specs.Unify.{Equation, _≐_, unify-equation, unify-all}
 use Rattle.unifier_nodes.specs.Work.{Rep, rep-func, rep-phi, Good, Room, Frame}
 use Rattle.unifier_nodes.specs.Walks.{Wrote}
 use Rattle.unifier_nodes.specs.Promises.{Known-both, Unifies-nodes}
 use Rattle.unifier_nodes.specs.declared.state.State.{State}
 use Rattle.unifier_nodes.proofs.Frames.{rep-same, reps-same, good-same, frame-refl, frame-from, frame-trans, wrote-frame}
 use Rattle.unifier_nodes.proofs.Getting.{room-charged}
-use Rattle.run_walk.specs.Solving.{Solving, Walk-keeps, Solves, Equal-asked, Equates, Makes, makes-function, makes-phi, Made-asked, Equates-made}
+use Rattle.run_walk.specs.Solving.{Solving, Walk-keeps, plain-none, plain-one, Solves, Equal-asked, Equates, Makes, makes-function, makes-phi, Made-asked, Equates-made}
 use Rattle.run_layout.specs.declared.Layout.{Layout}
 use Rattle.run_walk.specs.declared.Walk.{Walk}
 use Rattle.run_walk.proofs.Composing.{layout-at, comes-as, spent-walk, solves-spent}
@@ -25,16 +25,17 @@ abbrev pub starts : Walk → ℕ → ℕ → State
 starts g top stack = record { left = g .left; top = top; stack = stack; refused = 0 }
 
 abbrev pub walk-after : Walk → State → Walk
-walk-after g st = record { left = st .left; top = st .top; refused = st .refused; next = g .next; log = g .log; at = g .at }
+walk-after g st = record { left = st .left; top = st .top; refused = st .refused; next = g .next; log = g .log; at = g .at; counts = g .counts }
 
-pub then-nothing : (o : Outcome Log) → and-then o done ≡ o
+then-nothing : (o : Outcome Log) → and-then o done ≡ o
 unfolding and-then
 then-nothing (done σ s) = refl
 then-nothing (refused r s σ) = refl
 
-one-equation : (reg : Registry) (σ : Log) (s : ℕ) (t u : Ty) → unify-all reg σ s (t ≐ u ∷ []) ≡ unify σ s t u
-unfolding unify-all unify-equation
-one-equation reg σ s t u = then-nothing (unify σ s t u)
+-- one equation alone
+pub one-equation : (reg : Registry) (σ : Log) (s : ℕ) (e : Equation) → unify-all reg σ s (e ∷ []) ≡ unify-equation reg σ s e
+unfolding unify-all
+one-equation reg σ s e = then-nothing (unify-equation reg σ s e)
 
 -- the names log and the slots' types lie past what the unifier may need
 pub log-beyond : {img w : List ℕ} {lay : Layout} {g : Walk} → Solving img w lay g → (lay .stack + g .left ≤ lay .log) × (lay .log ≤ lay .entries)
@@ -57,18 +58,21 @@ module _ {img w v w′ : List ℕ} {lay : Layout} {g : Walk} {st : State} {top a
         entries = λ k o. f .beyond k (omega arith);
         fewer = p .fewer;
         log-grows = omega arith;
-        pays = λ e. let q = pay e in record { spent = q; made = omega arith; noted = omega arith };
+        pays = λ e. let q = pay e in record { spent = q; made = omega arith; noted = omega arith; counted = omega arith };
       }
 
   solves-one : {t u : Ty} → (st .refused ≡ 0 → st .top + 4 * st .left ≤ g .top + 4 * g .left) → Rep v (lay .lo) top a t → Rep v (lay .lo) top b u
       → Solves (t ≐ u ∷ []) 0 w w′ lay g (walk-after g st)
+  unfolding unify-equation
   solves-one {t} {u} pay q q′ = record {
     keeps = keeps-one pay;
     log-same = refl;
+    counts-same = refl;
+    plain = λ e. plain-one plain-none;
     next = λ e. omega arith;
     means = λ reg σ good.
         let y = h .binds .means σ t u (good-then σ good) q q′ in
-        comes-as (one-equation reg σ (g .left) t u) (record { finished = y .finished; ended = y .ended });
+        comes-as (one-equation reg σ (g .left) (t ≐ u)) (record { finished = y .finished; ended = y .ended });
   }
 
 -- `equal`

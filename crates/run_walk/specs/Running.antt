@@ -7,11 +7,13 @@ use Rattle.image.specs.Image.{word, count, name-at}
 use Rattle.image.specs.Kind.{Kind}
 use Rattle.image.specs.Program.{program}
 use Rattle.unifier_definition.specs.Log.{Log}
-use Rattle.unifier_definition.specs.Outcome.{Outcome, done}
+use Rattle.unifier_definition.specs.Outcome.{done}
 use Rattle.unifier_definition.specs.Unify.{unify-all}
+use Rattle.unifier_definition.specs.Counts.{count-lookups}
 use Rattle.unifier_nodes.specs.Work.{at, Good}
 use Rattle.unifier_nodes.specs.Walks.{Refuses}
 use Rattle.unifier_properties.specs.Lookup.{registry-of}
+use Rattle.unifier_counts.specs.Given.{counts-of}
 use Rattle.run_definition.specs.Equations.{Logged-name, Names-log, Generated, generate-instruction-types}
 use Rattle.run_definition.specs.Position.{instruction-at}
 use Rattle.run_definition.specs.Fitting.{Passed, Instruction-fits}
@@ -35,17 +37,20 @@ pub record Ready (img bytes w : List ℕ) (lay : Layout) (stretch : ℕ) (g : Wa
   pub names : Names-log
   pub logged : Logged img bytes w stretch (g .log) names
 
--- what an answer means, of a part that gives this
-pub record Ran (img bytes w′ : List ℕ) (lay : Layout) (stretch : ℕ) (r : Walk) (gen : Generated) (out : Outcome Log) : Type 0 where
+-- what an answer means, of a part that gives this, from a log on: what its equations come to, and their counts. "Contracts decide them by
+-- the definition's lookups"
+pub record Ran (img bytes w′ : List ℕ) (lay : Layout) (stretch : ℕ) (g r : Walk) (σ : Log) (gen : Generated) : Type 0 where
   pub finished : r .refused ≡ 0
-      → (σ : Log) × (out ≡ done σ (r .left)) × Good w′ (lay .lo) (r .top) σ × Logged img bytes w′ stretch (r .log) (gen .names) × (r .next ≡ gen .slots)
-  pub ended : (r .refused ≡ 0 → ⊥) → Refuses w′ (lay .lo) (r .top) (r .left) (r .refused) out
+      → (τ : Log) × (unify-all (registry-of img bytes) σ (g .left) (gen .equations) ≡ done τ (r .left)) × Good w′ (lay .lo) (r .top) τ
+      × Logged img bytes w′ stretch (r .log) (gen .names) × (r .next ≡ gen .slots)
+  pub counts : r .refused ≡ 0 → counts-of (r .counts) ≡ count-lookups (registry-of img bytes) σ (g .left) (counts-of (g .counts)) (gen .equations)
+  pub ended : (r .refused ≡ 0 → ⊥) → Refuses w′ (lay .lo) (r .top) (r .left) (r .refused) (unify-all (registry-of img bytes) σ (g .left) (gen .equations))
 
 -- the promise of a part of `generate` that gives this, by the names log and the number of slots before it
 pub record Generates (gen : Names-log → ℕ → Generated) (img bytes w w′ : List ℕ) (lay : Layout) (stretch : ℕ) (g r : Walk) : Type 0 where
   pub keeps : Walk-keeps w w′ lay g r
   pub means : (σ : Log) (ns : Names-log) → Good w (lay .lo) (g .top) σ → Logged img bytes w stretch (g .log) ns
-      → Ran img bytes w′ lay stretch r (gen ns (g .next)) (unify-all (registry-of img bytes) σ (g .left) (gen ns (g .next) .equations))
+      → Ran img bytes w′ lay stretch g r σ (gen ns (g .next))
 
 -- the promise of a part that stops at a position of the image, unless it is refused
 pub record Generates-to (next : ℕ) (gen : Names-log → ℕ → Generated) (img bytes w w′ : List ℕ) (lay : Layout) (stretch : ℕ) (g r : Walk) : Type 0 where

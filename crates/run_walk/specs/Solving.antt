@@ -12,6 +12,7 @@ use Rattle.unifier_definition.specs.Log.{Log}
 use Rattle.unifier_definition.specs.Outcome.{Outcome, done}
 use Rattle.unifier_definition.specs.Property.{Registry}
 use Rattle.unifier_definition.specs.Unify.{Equation, _≐_, unify-all}
+use Rattle.unifier_counts.specs.Given.{lookups}
 use Rattle.unifier_nodes.specs.Work.{at, Rep, Reps, Good, Room}
 use Rattle.unifier_nodes.specs.Walks.{Refuses}
 use Rattle.run_definition.specs.Fitting.{Instruction-fits}
@@ -23,8 +24,8 @@ use Rattle.run_walk.specs.declared.Walk.{Walk}
 unfoldable pub place-type : List ℕ → ℕ → Ty
 place-type img k = var (cell Identifiers img (word img k) 0)
 
--- what a part asks: what was laid out, identifiers with slots of the image, room, a slot and a log entry for each step left, and words
--- that stand for some log
+-- what a part asks: what was laid out, identifiers with slots of the image, room, a slot and a log entry for each step left, two
+-- steps for each lookup, and words that stand for some log
 pub record Solving (img w : List ℕ) (lay : Layout) (g : Walk) : Type 0 where
   pub budget : ℕ
   pub prepared : Prepared img w budget lay (g .top)
@@ -35,6 +36,7 @@ pub record Solving (img w : List ℕ) (lay : Layout) (g : Walk) : Type 0 where
   pub room : Room w (g .top) (g .left) (lay .stack)
   pub slots : g .next + g .left ≤ lay .lo
   pub entries : g .log + 2 * g .left ≤ lay .entries
+  pub counted : 2 * lookups (g .counts) + g .left ≤ budget
   pub opened : lay .log ≤ g .log
   pub running : g .refused ≡ 0
   pub σ : Log
@@ -45,6 +47,7 @@ pub record Walk-pays (g r : Walk) : Type 0 where
   pub spent : r .top + 4 * r .left ≤ g .top + 4 * g .left
   pub made : r .next + r .left ≤ g .next + g .left
   pub noted : r .log + 2 * r .left ≤ g .log + 2 * g .left
+  pub counted : 2 * lookups (r .counts) + r .left ≤ 2 * lookups (g .counts) + g .left
 
 -- what every part keeps: nodes, the names logged, the slots' types
 pub record Walk-keeps (w w′ : List ℕ) (lay : Layout) (g r : Walk) : Type 0 where
@@ -62,10 +65,17 @@ pub record Comes-to (w′ : List ℕ) (lay : Layout) (r : Walk) (out : Outcome L
   pub finished : r .refused ≡ 0 → (σ : Log) × (out ≡ done σ (r .left)) × Good w′ (lay .lo) (r .top) σ
   pub ended : (r .refused ≡ 0 → ⊥) → Refuses w′ (lay .lo) (r .top) (r .left) (r .refused) out
 
--- the promise of a part that unifies these equations, makes so many slots and logs no name
+-- equations between types: they make no lookup
+pub data Plain : List Equation → Type 0 where
+  plain-none : Plain []
+  plain-one : {t u : Ty} {es : List Equation} → Plain es → Plain (t ≐ u ∷ es)
+
+-- the promise of a part that unifies these equations, makes so many slots, logs no name and makes no lookup
 pub record Solves (es : List Equation) (more : ℕ) (w w′ : List ℕ) (lay : Layout) (g r : Walk) : Type 0 where
   pub keeps : Walk-keeps w w′ lay g r
   pub log-same : r .log ≡ g .log
+  pub counts-same : r .counts ≡ g .counts
+  pub plain : r .refused ≡ 0 → Plain es
   pub next : r .refused ≡ 0 → r .next ≡ g .next + more
   pub means : (reg : Registry) (σ : Log) → Good w (lay .lo) (g .top) σ → Comes-to w′ lay r (unify-all reg σ (g .left) es)
 

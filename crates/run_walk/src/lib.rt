@@ -13,19 +13,21 @@ use image::refusals;
 use run_layout::Layout;
 use run_layout::OWN_OBJECTS;
 use unifier::bind::unify;
+use unifier_counts::Counts;
 use unifier_nodes::node::NODE_WORDS;
 use unifier_nodes::node::put_node;
 use unifier_nodes::state::State;
 
-// The steps left, the next free word of nodes, 0 or a refusal, the next slot to be made, the end of the names log, and where
-// reading goes on in the image.
+// The steps left, the next free word of nodes, 0 or a refusal, the next slot to be made, the end of the names log, where reading
+// goes on in the image, and the counts of the lookups so far.
 pub struct Walk {
     pub left: u32,
     pub top: u32,
     pub refused: u32,
     pub next: u32,
     pub log: u32,
-    pub at: usize,
+    pub at: u32,
+    pub counts: Counts,
 }
 
 // The state that the unifier starts from, with its next node at top.
@@ -43,7 +45,7 @@ fn state_of(g: Walk, top: u32, stack: u32) -> State
 
 // The walk after the unifier left this state.
 pub fn walked(g: Walk, st: State) -> Walk
-    ensures { λ r. ⌜ r ≡ record { left = st .left; top = st .top; refused = st .refused; next = g .next; log = g .log; at = g .at } ⌝ }
+    ensures { λ r. ⌜ r ≡ record { left = st .left; top = st .top; refused = st .refused; next = g .next; log = g .log; at = g .at; counts = g .counts } ⌝ }
 {
     let left = st.left;
     let top = st.top;
@@ -51,6 +53,7 @@ pub fn walked(g: Walk, st: State) -> Walk
     let next = g.next;
     let log = g.log;
     let at = g.at;
+    let counts = g.counts;
     Walk {
         left,
         top,
@@ -58,12 +61,13 @@ pub fn walked(g: Walk, st: State) -> Walk
         next,
         log,
         at,
+        counts,
     }
 }
 
 // No step is left for what comes next.
 pub fn spent(g: Walk) -> Walk
-    ensures { λ r. ⌜ r ≡ record { left = g .left; top = g .top; refused = 13; next = g .next; log = g .log; at = g .at } ⌝ }
+    ensures { λ r. ⌜ r ≡ record { left = g .left; top = g .top; refused = 13; next = g .next; log = g .log; at = g .at; counts = g .counts } ⌝ }
 {
     let mut h = g;
     h.refused = refusals::OUT_OF_STEPS;

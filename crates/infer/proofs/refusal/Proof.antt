@@ -1,11 +1,12 @@
 use mathlib.Core.Path.{refl}
+use Rattle.unifier_definition.specs.Counts.{no-lookups}
 use Rattle.run_definition.specs.Infer.{refusal}
 use Rattle.run_tables.specs.Lent.{answer-of}
 use Rattle.infer.proofs.refusal.Statement.{statement}
 use Rattle.infer.proofs.refusal.Tie as tie
 
 returns : tie.Need-returns
-unfolding refusal answer-of
+unfolding refusal no-lookups answer-of
 returns c = refl
 
 pub refusal-spec : {M : Type 1} → statement M

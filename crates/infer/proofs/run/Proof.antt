@@ -1,3 +1,4 @@
+use native.Mathlib.Omega.{arith}
 use borrow.Author.Needs.{needs}
 use Rattle.infer.proofs.WholeRun.{ready, generate-stops, applying, apply-stops, finish-asked, run-finishes}
 use Rattle.infer.proofs.run.Statement.{statement}
@@ -5,60 +6,90 @@ use Rattle.infer.proofs.run.Tie as tie
 
 generate-requires : tie.Need-generate-requires
 generate-requires c κs =
-    let l = c .before .before .before in
-    ready (l .before .before .before .before .before .before .pre) (l .lay-out .ensures)
+    let l = c .before .before .before .before in
+    rw (c .first-walk .ensures) (ready (l .before .before .before .before .before .before .pre) (l .lay-out .ensures))
+
+sub-refusal : tie.Need-sub-refusal
+sub-refusal c =
+    let g = c .before .before .before in
+    let f = rw (g .before .first-walk .ensures) at (g .generate .ensures) in
+    omega (arith, f .keeps .fewer)
 
 returns : tie.Need-returns
 returns c =
     let g = c .before .before .before .before in
-    let l = g .before .before .before .before in
-    generate-stops (l .before .before .before .before .before .before .pre) (l .lay-out .ensures) (g .generate .ensures) (c .before .if1 .taken) (c .refusal .ensures)
+    let l = g .before .before .before .before .before in
+    let s = l .before .before .before .before .before .before in
+    let f = rw (g .before .first-walk .ensures) at (g .generate .ensures) in
+    generate-stops (s .pre) (l .lay-out .ensures) f (c .before .if1 .taken) (c .refusal .ensures)
 
 apply-requires : tie.Need-apply-requires
 apply-requires c κs =
     let g = c .before .before .before .before in
-    let l = g .before .before .before .before in
-    applying (l .before .before .before .before .before .before .pre) (l .lay-out .ensures) (g .generate .ensures) (c .before .if1 .left)
+    let l = g .before .before .before .before .before in
+    let s = l .before .before .before .before .before .before in
+    let f = rw (g .before .first-walk .ensures) at (g .generate .ensures) in
+    applying (s .pre) (l .lay-out .ensures) f (c .before .if1 .left)
+
+sub-refusal-2 : tie.Need-sub-refusal-2
+sub-refusal-2 c =
+    let a = c .before .before .before in
+    let g = a .before .before .before .before .before in
+    let f = rw (g .before .first-walk .ensures) at (g .generate .ensures) in
+    omega (arith, f .keeps .fewer, a .apply .ensures .keeps .fewer)
 
 returns-2 : tie.Need-returns-2
 returns-2 c =
     let a = c .before .before .before .before in
     let g = a .before .before .before .before .before in
-    let l = g .before .before .before .before in
-    apply-stops (l .before .before .before .before .before .before .pre) (l .lay-out .ensures) (g .generate .ensures) (a .before .before .if1 .left) (a .apply .ensures) (c .before .if2 .taken) (c .refusal2 .ensures)
+    let l = g .before .before .before .before .before in
+    let s = l .before .before .before .before .before .before in
+    let f = rw (g .before .first-walk .ensures) at (g .generate .ensures) in
+    apply-stops (s .pre) (l .lay-out .ensures) f (a .before .before .if1 .left) (a .apply .ensures) (c .before .if2 .taken) (c .refusal2 .ensures)
+
+sub-finish : tie.Need-sub-finish
+sub-finish c =
+    let a = c .before .before .before .before in
+    let g = a .before .before .before .before .before in
+    let f = rw (g .before .first-walk .ensures) at (g .generate .ensures) in
+    omega (arith, f .keeps .fewer, a .apply .ensures .keeps .fewer)
 
 finish-requires : tie.Need-finish-requires
 finish-requires c κs =
     let a = c .before .before .before .before .before in
     let g = a .before .before .before .before .before in
-    let l = g .before .before .before .before in
-    finish-asked (l .before .before .before .before .before .before .pre) (l .lay-out .ensures) (g .generate .ensures) (a .before .before .if1 .left) (a .apply .ensures) (c .before .before .if2 .left)
+    let l = g .before .before .before .before .before in
+    let s = l .before .before .before .before .before .before in
+    let f = rw (g .before .first-walk .ensures) at (g .generate .ensures) in
+    finish-asked (s .pre) (l .lay-out .ensures) f (a .before .before .if1 .left) (a .apply .ensures) (c .before .before .if2 .left)
 
 returns-3 : tie.Need-returns-3
 returns-3 c =
-    let f = c .before .before in
-    let a = f .before .before .before .before .before .before in
+    let a = c .before .before .before .before .before .before .before .before in
     let g = a .before .before .before .before .before in
-    let l = g .before .before .before .before in
-    run-finishes (l .before .before .before .before .before .before .pre) (l .lay-out .ensures) (g .generate .ensures) (a .before .before .if1 .left) (a .apply .ensures) (f .before .before .before .if2 .left) (f .finish .ensures)
+    let l = g .before .before .before .before .before in
+    let s = l .before .before .before .before .before .before in
+    let f = rw (g .before .first-walk .ensures) at (g .generate .ensures) in
+    run-finishes (s .pre) (l .lay-out .ensures) f (a .before .before .if1 .left) (a .apply .ensures) (c .before .before .before .before .before .if2 .left) (c .before .before .finish .ensures)
 
 pub run-spec : {M : Type 1} → statement M
 run-spec =
     tie.close
     (tie.spec
     (λ c κs. search needs)
+    (λ c κs. search needs)
     generate-requires
-    (λ c. search needs)
+    sub-refusal
     (λ c κs. search needs)
     (λ c. search needs)
     returns
     apply-requires
-    (λ c. search needs)
+    sub-refusal-2
     (λ c κs. search needs)
     (λ c. search needs)
     returns-2
-    (λ c. search needs)
+    sub-finish
     finish-requires
-    (λ c. search needs)
+    (λ c. returns-3 c .len)
     (λ c. search needs)
     returns-3)

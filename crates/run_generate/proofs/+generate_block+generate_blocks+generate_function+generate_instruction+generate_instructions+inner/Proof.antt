@@ -7,7 +7,7 @@ use Rattle.run_definition.specs.Position.{after-instruction}
 use Rattle.run_definition.proofs.PositionLaws.{nested-below}
 use Rattle.run_generate.proofs.KindTable.{nested-some, nested-none}
 use Rattle.run_generate.proofs.Dispatch.{instruction-inside}
-use Rattle.run_generate.proofs.Loops.{Going, going-none, going-one, going-more, going-stopped, going-done, instructions-row, blocks-row, generating, instructions-doing, blocks-doing, instructions-stopped, instructions-done}
+use Rattle.run_generate.proofs.Loops.{Going, going-none, going-one, going-more, going-stopped, going-done, instructions-row, blocks-row, generating, instructions-doing, blocks-doing, instructions-stopped, instructions-short, instructions-done}
 use Rattle.run_generate.proofs.Cycle.{ready-own, inner-done, instruction-stopped, instruction-inner, instruction-plain, instruction-ready, inner-ready, block-places, block-inside, block-instructions, block-stopped, phis-land, block-ready, block-done, function-places, component-asked, returns-asked, blocks-fit, function-stopped, function-ready, function-broken, blocks-ready, function-done}
 use borrow.Fn.Kinds.{In}
 use borrow.Fn.PlainCycle.{Measures, is, falls, and}
@@ -135,32 +135,35 @@ generate-block-returns t c =
 
 generate-block-add-generate-instructions : (t : ℕ) → generate-block-lts.Need-add-generate-instructions (generate-block-env t) (generate-block-at t) generate-block.Post
 generate-block-add-generate-instructions t c =
-    let s = c .before .before .before .before .before .before .before .before .before .before in
-    let b = block-places (s .pre .1 .1) in omega (arith, phis-land (s .args .at) (s .pre .1 .0) (c .before .before .before .before .generate-phis .ensures) (c .before .if1 .left))
+    let s = c .before .before .before .before .before .before .before .before .before .before .before in
+    let b = block-places (s .pre .1 .1) in
+    omega (arith, phis-land (s .args .at) (s .pre .1 .0) (c .before .before .before .before .before .generate-phis .ensures) (c .before .before .if1 .left))
 
 generate-block-mul-generate-instructions : (t : ℕ) → generate-block-lts.Need-mul-generate-instructions (generate-block-env t) (generate-block-at t) generate-block.Post
 generate-block-mul-generate-instructions t c =
-    let s = c .before .before .before .before .before .before .before .before .before .before in
-    let b = block-places (s .pre .1 .1) in omega (arith, phis-land (s .args .at) (s .pre .1 .0) (c .before .before .before .before .generate-phis .ensures) (c .before .if1 .left))
+    let s = c .before .before .before .before .before .before .before .before .before .before .before in
+    let b = block-places (s .pre .1 .1) in
+    omega (arith, phis-land (s .args .at) (s .pre .1 .0) (c .before .before .before .before .before .generate-phis .ensures) (c .before .before .if1 .left))
 
 generate-block-shared-slice-read-generate-instructions : (t : ℕ) → generate-block-lts.Need-shared-slice-read-generate-instructions (generate-block-env t) (generate-block-at t) generate-block.Post
 generate-block-shared-slice-read-generate-instructions t c =
-    let s = c .before .before .before .before .before .before .before .before .before .before .before in
-    let b = block-places (s .pre .1 .1) in omega (arith, phis-land (s .args .at) (s .pre .1 .0) (c .before .before .before .before .before .generate-phis .ensures) (c .before .before .if1 .left))
+    let s = c .before .before .before .before .before .before .before .before .before .before .before .before in
+    let b = block-places (s .pre .1 .1) in
+    omega (arith, phis-land (s .args .at) (s .pre .1 .0) (c .before .before .before .before .before .before .generate-phis .ensures) (c .before .before .before .if1 .left))
 
 generate-block-generate-instructions-requires : (t : ℕ) → generate-block-lts.Need-generate-instructions-requires (generate-block-env t) (generate-block-at t) generate-block.Post
 generate-block-generate-instructions-requires t c κs =
-    let k = c .before .before in
-    let m = k .before .before .before in
-    let s = m .before .before .before .before .before .before in
-    (omega arith, (block-ready (s .args .at) (s .pre .1 .0) (m .generate-phis .ensures) (k .if1 .left), block-instructions (s .pre .1 .1) (phis-land (s .args .at) (s .pre .1 .0) (m .generate-phis .ensures) (k .if1 .left))))
+    let s = c .before .before .before .before .before .before .before .before .before .before .before .before in
+    let f = c .before .before .before .before .before .before .generate-phis .ensures in
+    let z = c .before .before .before .if1 .left in
+    (omega arith, (block-ready (s .args .at) (s .pre .1 .0) f z, block-instructions (s .pre .1 .1) (phis-land (s .args .at) (s .pre .1 .0) f z)))
 
 generate-block-returns-2 : (t : ℕ) → generate-block-lts.Need-returns-2 (generate-block-env t) (generate-block-at t) generate-block.Post
 generate-block-returns-2 t c =
-    let k = c .before .before .before .before .before in
-    let m = k .before .before .before in
-    let s = m .before .before .before .before .before .before in
-    block-done (s .args .at) (s .pre .1 .0) (m .generate-phis .ensures) (k .if1 .left) (phis-land (s .args .at) (s .pre .1 .0) (m .generate-phis .ensures) (k .if1 .left)) (c .before .before .generate-instructions .ensures)
+    let s = c .before .before .before .before .before .before .before .before .before .before .before .before .before .before .before in
+    let f = c .before .before .before .before .before .before .before .before .before .generate-phis .ensures in
+    let z = c .before .before .before .before .before .before .if1 .left in
+    block-done (s .args .at) (s .pre .1 .0) f z (phis-land (s .args .at) (s .pre .1 .0) f z) (c .before .before .generate-instructions .ensures)
 
 abbrev generate-blocks-Inv-loop : generate-blocks-lts.InvT-loop
 generate-blocks-Inv-loop img bytes w₀ lay f stretch from n g₀ at₀ counter₀ w g at counter = Going (blocks-doing img bytes lay stretch f) w₀ w g₀ g from n at counter
@@ -356,6 +359,9 @@ generate-instructions-loop-again : (t : ℕ) → generate-instructions-lts.Need-
 unfolding instructions-row instructions-doing generating after-instruction
 generate-instructions-loop-again t c = going-more (c .before .before .before .before .before .before .before .loop .inv) (c .before .before .before .before .before .before .loop-test .taken) (c .before .before .before .before .generate-instruction .ensures) (c .before .if1 .left) (omega (arith, c .after-rows .ensures))
 
+generate-instructions-cast-g : (t : ℕ) → generate-instructions-lts.Need-cast-g (generate-instructions-env t) (generate-instructions-at t) generate-instructions.Post generate-instructions-Inv-loop generate-instructions-μ-loop
+generate-instructions-cast-g t c = omega (arith, instructions-short _ _ _ _ _ (c .before .loop .inv))
+
 generate-instructions-returns-2 : (t : ℕ) → generate-instructions-lts.Need-returns-2 (generate-instructions-env t)
     (generate-instructions-at t)
     generate-instructions.Post
@@ -388,6 +394,7 @@ pub +generate-block+generate-blocks+generate-function+generate-instruction+gener
     (generate-block-generate-phis-requires t)
     (λ c. generate-block-returns t c .generates .keeps .len)
     (generate-block-returns t)
+    (λ c. search needs)
     (generate-block-add-generate-instructions t)
     (generate-block-mul-generate-instructions t)
     (generate-block-shared-slice-read-generate-instructions t)
@@ -404,6 +411,7 @@ pub +generate-block+generate-blocks+generate-function+generate-instruction+gener
     (generate-blocks-generate-block-requires t)
     (λ c. generate-blocks-returns t c .keeps .len)
     (generate-blocks-returns t)
+    (λ c. search needs)
     (generate-blocks-add-at t)
     (λ c. search needs)
     (λ c. search needs)
@@ -461,6 +469,7 @@ pub +generate-block+generate-blocks+generate-function+generate-instruction+gener
     (λ c. search needs)
     (λ c. search needs)
     (generate-instructions-loop-again t)
+    (generate-instructions-cast-g t)
     (λ c. generate-instructions-returns-2 t c .generates .keeps .len)
     (generate-instructions-returns-2 t))
     λ t. inner-lts.spec

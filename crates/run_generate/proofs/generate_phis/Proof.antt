@@ -3,7 +3,7 @@ use mathlib.Core.List.{[]}
 use native.Mathlib.Omega.{arith}
 use borrow.Author.Needs.{needs}
 use Rattle.run_definition.specs.Position.{after-phi}
-use Rattle.run_generate.proofs.Loops.{Going, going-none, going-one, going-more, phis-row, phis-doing, phis-stopped, phis-done}
+use Rattle.run_generate.proofs.Loops.{Going, going-none, going-one, going-more, phis-row, phis-doing, phis-stopped, phis-short, phis-done}
 use Rattle.run_generate.proofs.generate_phis.Statement.{statement}
 use Rattle.run_generate.proofs.generate_phis.Tie as tie
 
@@ -44,4 +44,4 @@ returns-2 : tie.Need-returns-2 Inv-loop μ-loop
 returns-2 c = phis-done (c .before .loop .inv) (omega arith)
 
 pub generate-phis-spec : {M : Type 1} → statement M
-generate-phis-spec = tie.close (tie.spec Inv-loop μ-loop loop-holds phi-requires (λ c. returns c .solves .solves [] .keeps .len) returns add-after-rows after-rows-requires (λ c. search needs) (λ c. search needs) loop-again (λ c. returns-2 c .solves .solves [] .keeps .len) returns-2)
+generate-phis-spec = tie.close (tie.spec Inv-loop μ-loop loop-holds phi-requires (λ c. returns c .solves .solves [] .keeps .len) returns add-after-rows after-rows-requires (λ c. search needs) (λ c. search needs) loop-again (λ c. omega (arith, phis-short _ _ (c .before .loop .inv))) (λ c. returns-2 c .solves .solves [] .keeps .len) returns-2)

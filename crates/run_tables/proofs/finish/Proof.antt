@@ -6,14 +6,14 @@ use Rattle.run_tables.proofs.finish.Tie as tie
 
 write-requires : tie.Need-write-requires
 write-requires c κs =
-    let a = c .before .before in
-    let p = a .before .before .before .pre in
-    record { σ = p .σ; types = p .types; resolved = p .resolved; room = omega (arith, a .total-size .ensures .words (p .σ) (p .types) (p .resolved), c .before .if1 .left) }
+    let p = c .before .before .before .before .before .before .before .before .before .pre in
+    let words = c .before .before .before .before .before .before .total-size .ensures .words (p .σ) (p .types) (p .resolved) in
+    record { σ = p .σ; types = p .types; resolved = p .resolved; room = omega (arith, words, c .before .if1 .left) }
 
 returns-2 : tie.Need-returns-2
 returns-2 c =
-    let i = c .before .before .before .before in
-    all-written (i .before .total-size .ensures) _ (i .if1 .left) (c .before .before .write .ensures)
+    let size = c .before .before .before .before .before .before .before .before .before .total-size .ensures in
+    all-written size _ _ (c .before .before .before .before .if1 .left) (c .before .before .write .ensures)
 
 pub finish-spec : {M : Type 1} → statement M
 finish-spec =
@@ -21,7 +21,11 @@ finish-spec =
     (tie.spec
     (λ c κs. c .before .before .pre)
     (λ c. search needs)
-    (λ c. too-long (c .before .total-size .ensures) _ (c .if1 .taken))
+    (λ c. search needs)
+    (λ c. search needs)
+    (λ c. search needs)
+    (λ c. search needs)
+    (λ c. too-long (c .before .before .before .before .before .total-size .ensures) _ _ (c .if1 .taken))
     write-requires
     (λ c. search needs)
     returns-2)
