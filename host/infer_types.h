@@ -209,13 +209,20 @@ enum {
     INFER_TYPES_REFUSED_TABLE_WORDS = 14
 };
 
-/* In a refusal the counts are 0; so are the table words, but for INFER_TYPES_REFUSED_TABLE_WORDS. */
+/*
+ * What a call answers: nine words. In a refusal the counts are 0, those of the lookups too; so are the table words, but for
+ * INFER_TYPES_REFUSED_TABLE_WORDS.
+ */
 struct infer_types_answer {
     uint32_t number;
     uint32_t steps;
     uint32_t slots;
     uint32_t bindings;
     uint32_t table_words;
+    uint32_t exact;   /* property lookups that found a type by the exact name */
+    uint32_t star;    /* those that found one by the "*" entry */
+    uint32_t hook;    /* those that found one by the hook rule */
+    uint32_t nothing; /* those that found none */
 };
 
 /* The types of an image's slots and the bindings of their variables, in at most so many steps. */

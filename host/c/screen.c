@@ -193,9 +193,11 @@ static void print_tables(const uint32_t *tables, const struct infer_types_answer
 }
 
 static void print_answer(const struct infer_types_answer *answer) {
-    printf("answer %lu steps %lu slots %lu bindings %lu table words %lu\n", (unsigned long)answer->number,
+    printf("answer %lu steps %lu slots %lu bindings %lu table words %lu", (unsigned long)answer->number,
            (unsigned long)answer->steps, (unsigned long)answer->slots, (unsigned long)answer->bindings,
            (unsigned long)answer->table_words);
+    printf(" exact %lu star %lu hook %lu nothing %lu\n", (unsigned long)answer->exact, (unsigned long)answer->star,
+           (unsigned long)answer->hook, (unsigned long)answer->nothing);
 }
 
 static uint32_t *words_of(size_t count) {

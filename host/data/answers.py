@@ -3,23 +3,24 @@
     python3 host/data/answers.py REFERENCE answer IN OUT              IN's inputs with the model's answers
     python3 host/data/answers.py REFERENCE generate SEED COUNT WORDS OUT   inputs of the model's own generator
 
-REFERENCE is the folder of the reference model (model.py, generate.py).
+REFERENCE is the folder of the reference model (generate.py, requests/).
 """
 
 import struct
 import sys
 
-from corpus import MOST_TABLES, NONE, number, word
+from corpus import NONE, number, run, word
 
 
 def words(values):
     return number(len(values)) + b"".join(map(word, values))
 
 
-def record(image, names, budget, work, answer):
+def record(image, names, budget, work, answer, tables):
+    lookups = answer.exact, answer.star, answer.hook, answer.nothing
     return (words(image) + number(len(names)) + bytes(names) + number(budget) + number(work)
-            + number(answer.number) + number(answer.steps + 1) + number(answer.slots)
-            + number(answer.binds) + words(answer.tables))
+            + number(answer.number) + word(answer.steps) + number(answer.slots)
+            + number(answer.binds) + b"".join(map(word, lookups)) + words(tables))
 
 
 class Reader:
@@ -46,7 +47,7 @@ class Reader:
             names = self.data[self.at:self.at + count]
             self.at += count
             budget, work = self.number(), self.number()
-            for _ in range(4):
+            for _ in range(8):
                 self.number()
             self.words()
             yield image, names, budget, work
@@ -68,7 +69,6 @@ def main():
     reference, command, *rest = sys.argv[1:]
     sys.path.insert(0, reference)
     import generate
-    import model
     if command == "generate":
         seed, count, most = map(int, rest[:3])
         inputs = generated(generate, seed, count, most)
@@ -77,8 +77,7 @@ def main():
             inputs = list(Reader(file.read()).inputs())
     with open(rest[-1], "wb") as out:
         for image, names, budget, work in inputs:
-            answer = model.run(image, names, budget, work, MOST_TABLES)
-            out.write(record(image, names, budget, work, answer))
+            out.write(record(image, names, budget, work, *run(image, names, budget, work)))
 
 
 if __name__ == "__main__":

@@ -4,7 +4,7 @@
     python3 host/data/corpus.py REFERENCE compare FILE..    holds the answers of files to the model's
     python3 host/data/corpus.py REFERENCE answers FILE..    writes the whole run's answers beside each file
 
-REFERENCE is the folder of the reference model (model.py, generate.py, rows.py).
+REFERENCE is the folder of the reference model (model.py, generate.py, rows.py, requests/).
 """
 
 import contextlib
@@ -17,6 +17,8 @@ from collections import Counter
 NONE = 0xFFFFFFFF
 LIMIT = 65_536
 MOST_TABLES = 16_777_216
+LANDED = 1                      # of document 02 the answers have 2.1, and no later request
+LONGEST_LOOKUPS = 2_000         # words, and name bytes; longer inputs are those that `lengths` makes
 
 
 def number(value):
@@ -157,6 +159,40 @@ def rows(writer):
         writer.whole(row.words, row.name_bytes, row.budget, enough(row.words, row.budget))
 
 
+def sort_of(case):
+    """A run's number, the rules that its lookups met before it ended, and whether it has refs that make none."""
+    from requests import as_of
+    from requests.base import run_to_tables
+
+    def solved(words):
+        run = run_to_tables(**{**case, "words": words, "table_len": MOST_TABLES}, rules=as_of(LANDED))
+        return run.answer.number, run.solved.counts if run.solved else []
+
+    words = case["words"]
+    number, counts = solved(words)
+    with_option = counts and words[1] & 1
+    refs = with_option and sum(solved([words[0], words[1] ^ 1] + words[2:])[1]) > sum(counts)
+    return number, tuple(count > 0 for count in counts), bool(refs)
+
+
+def lookups(rng, writer, tries, each):
+    """Runs by document 02's generator: so many tries, so many kept of each sort; some at the edges of 1 to 4 too."""
+    from requests import as_of, cases, images
+    images.allow(as_of(LANDED))
+    kept = Counter()
+    for _ in range(tries):
+        case = cases.run_arguments(rng, sizes=(250, 500, 900), refused=0.4)
+        words, names = case["words"], case["name_bytes"]
+        if max(len(words), len(names)) > LONGEST_LOOKUPS:
+            continue
+        sort = sort_of(case)
+        kept[sort] += 1
+        if kept[sort] <= each:
+            writer.whole(words, names, case["budget"], case["work_len"])
+            if sort[0] == 0 and rng.random() < 0.5:
+                lengths(rng, writer)
+
+
 def make(model, generate):
     here = os.path.dirname(os.path.abspath(__file__))
     parts = {
@@ -166,6 +202,7 @@ def make(model, generate):
                                                           32_000, 65_536] * 2, 30),
         "edges": lambda rng, w: edges(rng, w, generate, 400),
         "rows": lambda rng, w: rows(w),
+        "lookups": lambda rng, w: lookups(rng, w, 6_000, 14),
     }
     for name, part in parts.items():
         writer = Writer(model.check)
@@ -197,20 +234,25 @@ def sum_of(tables):
     return value
 
 
-def answers(model, files):
+def run(words, names, budget, work):
+    """The model's answer with the counts of lookups, and its tables, for which words enough are lent."""
+    import requests
+    answer, written = requests.run(words, names, budget, work, MOST_TABLES, rules=requests.as_of(LANDED))
+    return answer, written["tables"]
+
+
+def answers(files):
     for path in files:
         out, counts = bytearray(), Counter()
         with open(path, "rb") as file:
             for words, names, budget, work, _ in read(file.read()):
-                answer = model.run(words, names, budget, work, MOST_TABLES)
+                answer, tables = run(words, names, budget, work)
                 counts[answer.number] += 1
                 out += number(answer.number)
                 if answer.number == 0 or answer.number > 10:
                     out += number(answer.steps)
                 if answer.number == 0:
-                    for count in (answer.slots, answer.binds, answer.table_words):
-                        out += number(count)
-                    out += struct.pack("<Q", sum_of(answer.tables))
+                    out += b"".join(map(number, answer[2:])) + struct.pack("<Q", sum_of(tables))
         with open(os.path.splitext(path)[0] + ".answers", "wb") as file:
             file.write(out)
         print(path, len(out), "bytes", sorted(counts.items()))
@@ -224,8 +266,10 @@ def main():
     import model
     if sys.argv[2] == "make":
         make(model, generate)
+    elif sys.argv[2] == "compare":
+        compare(model, sys.argv[3:])
     else:
-        (compare if sys.argv[2] == "compare" else answers)(model, sys.argv[3:])
+        answers(sys.argv[3:])
 
 
 if __name__ == "__main__":

@@ -1,8 +1,8 @@
 //! Answers of whole runs, stored beside the inputs of a corpus file.
 //!
 //! A file has an answer for each record of its corpus file, in order: the number; for 0 and from 11 on the steps;
-//! for 0 the slots, the bindings, the table words, and the sum of the tables in eight bytes, lowest first. Numbers
-//! are written as in the corpus. Table words were never short.
+//! for 0 the slots, the bindings, the table words, the four counts of property lookups, and the sum of the tables in
+//! eight bytes, lowest first. Numbers are written as in the corpus. Table words were never short.
 
 use crate::corpus::Reader;
 use infer_types::Answer;
@@ -19,7 +19,8 @@ pub fn is_unrun(answer: &Answer) -> bool {
 
 /// The answer where this one's tables are longer than the lent words.
 pub fn without_tables(answer: Answer) -> Answer {
-    Answer { number: 14, slots: 0, bindings: 0, ..answer }
+    let Answer { steps, table_words, .. } = answer;
+    Answer { number: 14, steps, table_words, ..Answer::default() }
 }
 
 /// An answer, and the sum of its tables.
@@ -45,9 +46,10 @@ pub fn read(file: &[u8]) -> Vec<Expected> {
             answer.steps = reader.number() as u32;
         }
         if is_done(&answer) {
-            answer.slots = reader.number() as u32;
-            answer.bindings = reader.number() as u32;
-            answer.table_words = reader.number() as u32;
+            let Answer { slots, bindings, table_words, exact, star, hook, nothing, .. } = &mut answer;
+            for count in [slots, bindings, table_words, exact, star, hook, nothing] {
+                *count = reader.number() as u32;
+            }
             tables = u64::from_le_bytes(std::array::from_fn(|_| reader.byte()));
         }
         all.push(Expected { answer, sum: tables });

@@ -96,11 +96,13 @@ pub fn push(out: &mut Vec<u8>, mut number: u64) {
     out.push(number as u8);
 }
 
+pub fn push_word(out: &mut Vec<u8>, word: u32) {
+    push(out, word.wrapping_add(1) as u64);
+}
+
 pub fn push_words(out: &mut Vec<u8>, words: &[u32]) {
     push(out, words.len() as u64);
-    for word in words {
-        push(out, word.wrapping_add(1) as u64);
-    }
+    words.iter().for_each(|&word| push_word(out, word));
 }
 
 /// Adds a case as a record 0.

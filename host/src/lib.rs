@@ -13,3 +13,5 @@ pub mod lent;
 pub mod plain;
 pub mod random;
 pub mod report;
+#[cfg(feature = "library")]
+pub mod rules;

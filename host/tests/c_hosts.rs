@@ -2,12 +2,14 @@
 //! that it has word by word.
 
 use host::image::{
-    FnType, Instruction, Kind, Role, Table, Tag, HEADER_WORDS, HOOK, LENGTH, NONE, OPTIONS, VERSION,
+    option_bits, FnType, Instruction, Kind, Role, Table, Tag, HEADER_WORDS, HOOK, LENGTH, NONE, OPTIONS,
+    VERSION,
 };
 use infer_image::shapes;
-use infer_types::{Refusal, LIMIT};
+use infer_types::{Answer, Refusal, LIMIT};
 use std::collections::HashMap;
 use std::fmt::Debug;
+use std::mem::{offset_of, size_of};
 
 /// The example in Rust, whose screen is that of host/c/screen.c.
 #[allow(dead_code)]
@@ -55,6 +57,8 @@ fn the_constants_are_the_writers() {
         has(format!("WORD_{name}"), at as u32);
     }
     has("HEADER_WORDS".into(), HEADER_WORDS as u32);
+    has("OPTION_REFS".into(), option_bits::REFS);
+    has("OPTION_SETTERS".into(), option_bits::SETTERS);
     Table::ALL.iter().for_each(|&one| has(format!("WORD_{}", c_name(one)), one.count_at() as u32));
     Kind::ALL.iter().for_each(|&one| has(format!("KIND_{}", c_name(one)), one as u32));
     Tag::ALL.iter().for_each(|&one| has(format!("TAG_{}", c_name(one)), one as u32));
@@ -101,6 +105,35 @@ fn the_refusals_are_the_bindings() {
         assert_eq!((bindings, constants.get(&format!("REFUSED_{name}"))), (number, Some(&number)), "{name}");
     }
     assert_eq!(constants.get("LIMIT"), Some(&(LIMIT as u32)));
+}
+
+/// The fields of the header's answer, each of which is a word: that many words in this order are the binding's answer.
+#[test]
+fn the_answer_is_the_bindings() {
+    let header = read("infer_types.h");
+    let fields = header.lines().skip_while(|line| *line != "struct infer_types_answer {").skip(1);
+    let fields: Vec<&str> = fields
+        .take_while(|line| *line != "};")
+        .map(|line| {
+            line.trim().strip_prefix("uint32_t ").and_then(|rest| rest.split_once(';')).expect(line).0
+        })
+        .collect();
+    let bindings = [
+        ("number", offset_of!(Answer, number)),
+        ("steps", offset_of!(Answer, steps)),
+        ("slots", offset_of!(Answer, slots)),
+        ("bindings", offset_of!(Answer, bindings)),
+        ("table_words", offset_of!(Answer, table_words)),
+        ("exact", offset_of!(Answer, exact)),
+        ("star", offset_of!(Answer, star)),
+        ("hook", offset_of!(Answer, hook)),
+        ("nothing", offset_of!(Answer, nothing)),
+    ];
+    assert_eq!(fields, bindings.map(|(name, _)| name));
+    for (word, (name, offset)) in bindings.into_iter().enumerate() {
+        assert_eq!(offset, 4 * word, "{name}");
+    }
+    assert_eq!(size_of::<Answer>(), 4 * bindings.len());
 }
 
 /// A type of each kind, in the order of the kinds.

@@ -16,6 +16,7 @@
 //! words that a host lends itself.
 
 mod inferred;
+mod lookups;
 mod refusal;
 mod runner;
 mod stack;
@@ -23,6 +24,7 @@ mod tables;
 
 pub use infer_image::*;
 pub use inferred::{Inferred, Operands, TypeKind};
+pub use lookups::Lookups;
 pub use refusal::{Fault, Refusal};
 pub use runner::Runner;
 pub use stack::stack_bytes;
@@ -40,11 +42,24 @@ pub struct Answer {
     pub slots: u32,
     pub bindings: u32,
     pub table_words: u32,
+    /// Property lookups that found a type by the exact name; this and the next three are 0 in a refusal.
+    pub exact: u32,
+    /// Those that found one by the "*" entry.
+    pub star: u32,
+    /// Those that found one by the hook rule.
+    pub hook: u32,
+    /// Those that found none.
+    pub nothing: u32,
 }
 
 impl Answer {
     /// The number of a run that succeeded.
     pub const DONE: u32 = 0;
+
+    /// The property lookups of the run, by what gave each its type: its last four words.
+    pub fn lookups(&self) -> Lookups {
+        Lookups { exact_name: self.exact, star_entry: self.star, hook_rule: self.hook, nothing: self.nothing }
+    }
 }
 
 mod linked {

@@ -12,7 +12,7 @@ const OF_THREAD: usize = 1 << 18;
 
 /// The check doesn't recurse: `in_large_arrays` 786,576, `check` 32,992, less than 1,000 others, rounded up.
 const CHECK: usize = 13 << 16;
-/// A level of `generate_function`; one of `apply_function` takes 448.
+/// A level of `generate_function` or of `apply_function`, which take 448, and 32 to spare.
 const FUNCTION: usize = 480;
 /// A level of the unifier: `try_resolve_type` 224, `get` 208, `unify` and `bind_variable_to` over a variable 272, for
 /// two steps. Every level is a step, and its node was entered by another step when it was bound or made, but for those
@@ -20,7 +20,7 @@ const FUNCTION: usize = 480;
 const STEP: usize = 224 / 2;
 /// The levels of that one type, at most: its 4,096 words, two a level, and a variable.
 const TYPE: usize = 2_049 * STEP;
-/// `infer_types` 368, `instruction_types` 640, `property` 288, `bind_phi` 224, `bind_checked` 176, rounded up: with the
+/// `infer_types` 416, `instruction_types` 640, `property` 352, `bind_phi` 224, `bind_checked` 176, rounded up: with the
 /// type 57 pages.
 const RUN: usize = (57 << 12) - TYPE;
 

@@ -1,7 +1,7 @@
 //! The tables of a run, read.
 
 use crate::inferred::{type_words, Inferred};
-use crate::Answer;
+use crate::{Answer, Lookups};
 use infer_image::parts::Table;
 use infer_image::{Identifier, Slot};
 use std::fmt;
@@ -15,6 +15,7 @@ use std::ops::Range;
 pub struct Tables {
     /// The steps that the run took.
     pub steps: u32,
+    lookups: Lookups,
     pub(crate) words: Vec<u32>,
     /// Where each slot's type ends; the next one's starts there.
     slot_ends: Vec<usize>,
@@ -28,6 +29,7 @@ impl Tables {
     /// Reads what stands in the words: the tables that this answer says, of an image that passed the check.
     pub(crate) fn read(&mut self, answer: Answer, image: &[u32]) {
         self.steps = answer.steps;
+        self.lookups = answer.lookups();
         self.words.truncate(answer.table_words as usize);
         let mut at = 0;
         self.slot_ends.clear();
@@ -49,6 +51,11 @@ impl Tables {
     /// The words, as the library wrote them.
     pub fn words(&self) -> &[u32] {
         &self.words
+    }
+
+    /// How many property lookups the run made, by what gave each its type.
+    pub fn lookups(&self) -> Lookups {
+        self.lookups
     }
 
     /// The type of an identifier: that of its slot. Panics if there is no such identifier.

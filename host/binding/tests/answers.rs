@@ -73,7 +73,10 @@ fn edges_of_budget_work_and_tables() {
     assert_eq!(tables, [7; 6]);
     work.fill(9);
     let answer = infer_types_into(&image.words, &image.names, 6, &mut work, &mut tables);
-    assert_eq!(answer, Answer { number: 0, steps: 6, slots: 2, bindings: 1, table_words: 5 });
+    assert_eq!(
+        answer,
+        Answer { number: 0, steps: 6, slots: 2, bindings: 1, table_words: 5, ..Answer::default() }
+    );
     assert_eq!(tables, [1, 0, 1, 0, 1, 7]);
     assert!(work.iter().all(|&word| word == 0));
 }

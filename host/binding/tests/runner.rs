@@ -39,7 +39,7 @@ fn compare(runner: &mut Runner, image: &Image, budget: u32) {
                 (answer.slots, answer.bindings),
                 (read.slot_count() as u32, read.binding_count() as u32)
             );
-            assert_eq!(tables, read.words());
+            assert_eq!((answer.lookups(), &tables[..]), (read.lookups(), read.words()));
         }
         Err(refusal) => {
             assert_eq!((answer.number, answer.steps, 0), (refusal.number, refusal.steps, refusal.table_words))

@@ -1,5 +1,6 @@
 //! What was compared: by answer, and by what is in the images.
 
+use crate::bodies::instructions;
 use crate::inputs::Sort;
 use crate::judge::Held;
 use infer_image::parts::*;
@@ -34,8 +35,8 @@ impl Counts {
         self.tables += 1;
         let mut in_image = BTreeMap::<u32, u64>::new();
         for function in 0..input.count(Table::Functions) {
-            for kind in kinds(input, function) {
-                *in_image.entry(kind).or_default() += 1;
+            for instruction in instructions(input, function) {
+                *in_image.entry(instruction.kind).or_default() += 1;
             }
         }
         for (kind, count) in in_image {
@@ -99,36 +100,4 @@ fn size(words: usize) -> &'static str {
         4_096..=19_999 => "4,096 to 19,999",
         _ => "20,000 to 65,536",
     }
-}
-
-/// The kinds of all instructions of a function of an image that passed the check.
-pub fn kinds(input: &Input, function: u32) -> Vec<u32> {
-    let mut at = input.image[input.at(Table::Functions, function, 0)] as usize + 2;
-    let mut take = |words: usize| {
-        at += words;
-        input.image[at - words]
-    };
-    let mut kinds = vec![];
-    for _ in 0..take(1) {
-        take(2);
-    }
-    for _ in 0..take(1) {
-        take(1);
-    }
-    for _ in 0..take(1) {
-        for _ in 0..take(1) {
-            take(1);
-            for _ in 0..take(1) {
-                take(1);
-            }
-        }
-        for _ in 0..take(1) {
-            kinds.push(take(3));
-            for _ in 0..take(1) {
-                take(3);
-            }
-        }
-        take(2);
-    }
-    kinds
 }

@@ -1,8 +1,9 @@
 //! Holds an answer to what it has to be: by the plain check, or by the Rust.
 
-use crate::answer::{Answer, Library};
+use crate::answer::{Answer, Library, UNCOUNTED};
+use crate::bodies::accesses;
 use host::plain;
-use infer_image::parts::{Input, NONE};
+use infer_image::parts::{option_bits, Input, NONE, OPTIONS};
 use original::run::Outcome;
 use original::screen::Accents;
 use original::worker::Worker;
@@ -113,6 +114,7 @@ impl<L: Library> Judge<L> {
             let at = answer.tables.iter().zip(&tables.words).position(|(one, other)| one != other);
             return Err(format!("tables differ from the Rust's at word {at:?}"));
         }
+        hold_lookups(input, answer)?;
         Ok(if accents == Accents::Kept { Held::Tables } else { Held::TablesGuarded })
     }
 
@@ -139,6 +141,7 @@ impl<L: Library> Judge<L> {
                 slots: tables.slots,
                 bindings: tables.bindings,
                 table_words: tables.words.len() as u32,
+                lookups: UNCOUNTED,
                 tables: tables.words,
             }),
             Outcome::NoOperand => refused(11),
@@ -174,6 +177,19 @@ fn most_looks(input: &Input, answer: &Answer) -> u32 {
     match answer.steps {
         NONE => MOST_LOOKS,
         steps => 4 * (steps + input.image.len() as u32) + 1_000,
+    }
+}
+
+/// The lookups of a finished run are its property accesses; with the option for refs they may be fewer.
+fn hold_lookups(input: &Input, answer: &Answer) -> Result<(), String> {
+    if answer.lookups == UNCOUNTED {
+        return Ok(());
+    }
+    let (lookups, accesses) = (answer.lookups.iter().sum::<u32>(), accesses(input));
+    let refs = input.image[OPTIONS] & option_bits::REFS != 0;
+    match lookups == accesses || refs && lookups < accesses {
+        true => Ok(()),
+        false => Err(format!("{lookups} lookups, and {accesses} property accesses")),
     }
 }
 

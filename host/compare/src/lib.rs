@@ -5,6 +5,8 @@ pub mod answer;
 #[cfg(feature = "rust")]
 pub mod around;
 #[cfg(feature = "rust")]
+pub mod bodies;
+#[cfg(feature = "rust")]
 pub mod counts;
 pub mod inputs;
 #[cfg(feature = "rust")]

@@ -62,6 +62,7 @@ impl Linked {
             slots: answer.slots,
             bindings: answer.bindings,
             table_words: answer.table_words,
+            lookups: [answer.exact, answer.star, answer.hook, answer.nothing],
             tables,
         }
     }

@@ -1,12 +1,12 @@
 //! Files of inputs with whole answers.
 //!
 //! A file is a list of records. A record is word count, words, name count, name bytes, budget, work words; then the
-//! answer: number, steps, slots, bindings, table word count, table words. Numbers are written as in a corpus
-//! (`host::corpus`); image words, steps and table words as the word plus 1, NONE as 0. Steps that nobody counted are
-//! NONE.
+//! answer: number, steps, slots, bindings, the four counts of property lookups, table word count, table words. Numbers
+//! are written as in a corpus (`host::corpus`); image words, steps, lookups and table words as the word plus 1, NONE as
+//! 0. Steps that nobody counted are NONE, and so are the lookups of a finished run; those of a refusal are 0 by rule.
 
-use crate::answer::{Answer, Library};
-use host::corpus::{push, push_words, Reader};
+use crate::answer::{Answer, Library, UNCOUNTED};
+use host::corpus::{push, push_word, push_words, Reader};
 use infer_image::parts::{Input, NONE};
 
 fn record(reader: &mut Reader) -> (Input, Answer) {
@@ -14,8 +14,9 @@ fn record(reader: &mut Reader) -> (Input, Answer) {
     let input = Input { image, names, budget: reader.number() as u32, work: reader.count() };
     let (number, steps) = (reader.number() as u32, reader.word());
     let (slots, bindings) = (reader.number() as u32, reader.number() as u32);
+    let lookups = std::array::from_fn(|_| reader.word());
     let tables = reader.words();
-    (input, Answer { number, steps, slots, bindings, table_words: tables.len() as u32, tables })
+    (input, Answer { number, steps, slots, bindings, table_words: tables.len() as u32, lookups, tables })
 }
 
 pub fn read(file: &[u8]) -> Vec<(Input, Answer)> {
@@ -35,15 +36,16 @@ pub fn write(out: &mut Vec<u8>, input: &Input, answer: &Answer) {
     push(out, input.budget as u64);
     push(out, input.work as u64);
     push(out, answer.number as u64);
-    push(out, answer.steps.wrapping_add(1) as u64);
+    push_word(out, answer.steps);
     push(out, answer.slots as u64);
     push(out, answer.bindings as u64);
+    answer.lookups.iter().for_each(|&count| push_word(out, count));
     push_words(out, &answer.tables);
 }
 
 /// The answer of a record that holds an input alone.
 pub fn unanswered() -> Answer {
-    Answer { number: NONE, steps: NONE, ..Answer::default() }
+    Answer { number: NONE, steps: NONE, lookups: UNCOUNTED, ..Answer::default() }
 }
 
 /// Stands where a library is asked and there are stored answers only.

@@ -4,11 +4,12 @@
 //!     infer_tests --write FILE    writes the deep inputs, for another judge
 
 use host::answers::{is_done, is_unrun, sum, without_tables, Expected};
-use host::image::{Case, Input};
+use host::image::{option_bits, Case, Input, OPTIONS};
 use host::lent::{Memory, Side, Words};
 use host::report::{fail, row};
+use host::rules::Rules;
 use host::{answers, corpus, deep, report};
-use infer_types::{infer_types, infer_types_into, Answer, Refusal, Runner, Tables, LIMIT};
+use infer_types::{infer_types, infer_types_into, Answer, Lookups, Refusal, Runner, Tables, LIMIT};
 use std::io::Write;
 use std::time::Instant;
 use std::{slice, thread};
@@ -26,7 +27,9 @@ const WHOLE_STACK: usize = 10 << 20;
 const DEFAULT_STACK: usize = 2 << 20;
 
 /// The corpus files, which stand beside their answers.
-const CORPUS: [&str; 4] = ["rows", "small", "large", "edges"];
+const CORPUS: [&str; 5] = ["rows", "small", "large", "edges", LOOKUPS];
+/// The one for the counts of lookups.
+const LOOKUPS: &str = "lookups";
 
 struct Tests {
     image: Memory,
@@ -94,12 +97,13 @@ impl Tests {
         }
     }
 
-    /// Prints how often each number was answered in a part.
-    fn part(&mut self, name: &str) {
+    /// Prints how often each number was answered in a part, and gives it.
+    fn part(&mut self, name: &str) -> [u64; 15] {
         println!("{name:<10}{}", row(&self.counts));
-        for (total, count) in self.total.iter_mut().zip(&mut self.counts) {
-            *total += std::mem::take(count);
+        for (total, count) in self.total.iter_mut().zip(&self.counts) {
+            *total += count;
         }
+        std::mem::take(&mut self.counts)
     }
 }
 
@@ -122,11 +126,50 @@ fn deep_answered(folder: &str) -> Vec<(Case, Expected)> {
     answered(deep::deep(), folder, "deep")
 }
 
-fn run_corpus(tests: &mut Tests, folder: &str, name: &str) {
+fn run_corpus(tests: &mut Tests, folder: &str, name: &str) -> [u64; 15] {
     for (case, expected) in corpus_answered(folder, name) {
         tests.compare(&case, expected);
     }
-    tests.part(name);
+    tests.part(name)
+}
+
+/// Fails if a number was never answered.
+fn require_numbers(counts: &[u64; 15]) {
+    for (number, &count) in counts.iter().enumerate() {
+        require(&format!("run with answer {number}"), count);
+    }
+}
+
+fn require(what: &str, count: u64) {
+    if count == 0 {
+        println!("FAILED: no {what}");
+        std::process::exit(1);
+    }
+}
+
+/// Whether a finished run has refs that make no lookup, by their option: without it there are more lookups.
+fn has_refs(case: &Case, answer: &Answer) -> bool {
+    let Input { image, names, budget, .. } = &case.input;
+    let mut without = image.clone();
+    without[OPTIONS] &= !option_bits::REFS;
+    infer_types(&without, names, *budget)
+        .is_ok_and(|tables| tables.lookups().total() > answer.lookups().total())
+}
+
+/// What the finished runs of the inputs for lookups came to: every rule, every pair of rules, all four, and refs.
+fn require_lookups(folder: &str) {
+    let (mut rules, mut refs) = (Rules::default(), 0);
+    for (case, Expected { answer, .. }) in corpus_answered(folder, LOOKUPS) {
+        if is_done(&answer) {
+            rules.add(answer.lookups());
+            refs += has_refs(&case, &answer) as u64;
+        }
+    }
+    let mut met = rules.met();
+    met.push(("refs without a lookup".into(), refs));
+    met.iter().for_each(|(what, count)| require(&format!("finished run with {what}"), *count));
+    let met: Vec<String> = met.iter().map(|(what, count)| format!("{what} {count}")).collect();
+    println!("  finished runs with {}", met.join(", "));
 }
 
 fn is_deepest(case: &Case) -> bool {
@@ -150,14 +193,15 @@ fn run_all(folder: &str) {
     let mut tests = Tests::new();
     println!("{:<10}{}", "answer", row(&std::array::from_fn::<u64, 15, _>(|number| number as u64)));
     for name in CORPUS {
-        run_corpus(&mut tests, folder, name);
+        let counts = run_corpus(&mut tests, folder, name);
+        if name == LOOKUPS {
+            require_numbers(&counts);
+            require_lookups(folder);
+        }
     }
     run_deep(&mut tests, folder, |case| !is_deepest(case));
     println!("{:<10}{}", "all", row(&tests.total));
-    if let Some(number) = tests.total.iter().position(|&count| count == 0) {
-        println!("FAILED: no run with answer {number}");
-        std::process::exit(1);
-    }
+    require_numbers(&tests.total);
 }
 
 fn run_deepest(folder: &str) {
@@ -194,12 +238,17 @@ fn compare_safe(case: &Case, result: Result<&Tables, Refusal>, expected: Expecte
 }
 
 fn answer_of(tables: &Tables) -> Answer {
+    let Lookups { exact_name, star_entry, hook_rule, nothing } = tables.lookups();
     Answer {
         number: Answer::DONE,
         steps: tables.steps,
         slots: tables.slot_count() as u32,
         bindings: tables.binding_count() as u32,
         table_words: tables.words().len() as u32,
+        exact: exact_name,
+        star: star_entry,
+        hook: hook_rule,
+        nothing,
     }
 }
 

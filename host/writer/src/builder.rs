@@ -1,7 +1,7 @@
 //! The builder of images for hosts.
 
 use crate::block::Body;
-use crate::parts::{self, Table, NONE};
+use crate::parts::{self, option_bits, Table, NONE};
 use crate::shape_names::ShapeNames;
 use std::collections::HashMap;
 use std::fmt;
@@ -97,13 +97,13 @@ impl Builder {
 
     /// `enable_treat_ref_like_identifiers_as_refs`.
     pub fn treat_ref_like_identifiers_as_refs(&mut self) -> &mut Self {
-        self.image.options |= 1;
+        self.image.options |= option_bits::REFS;
         self
     }
 
     /// `enable_treat_set_identifiers_as_state_setters`.
     pub fn treat_set_identifiers_as_state_setters(&mut self) -> &mut Self {
-        self.image.options |= 2;
+        self.image.options |= option_bits::SETTERS;
         self
     }
 

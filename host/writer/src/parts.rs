@@ -9,6 +9,12 @@ pub const HOOK: usize = 2;
 pub const LENGTH: usize = 19;
 pub const HEADER_WORDS: usize = 20;
 
+/// Bits of the options word.
+pub mod option_bits {
+    pub const REFS: u32 = 1;
+    pub const SETTERS: u32 = 2;
+}
+
 /// The kinds of types, in the image and in the tables.
 pub mod type_kinds {
     pub const VAR: u32 = 0;

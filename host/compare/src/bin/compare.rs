@@ -6,7 +6,7 @@
 //!     compare --stored FILE..             holds the answers of files to the Rust
 
 use compare::counts::Counts;
-use compare::inputs::{self, Sort};
+use compare::inputs;
 use compare::judge::Judge;
 use compare::rows::rows;
 use compare::stored::{self, Stored};
@@ -45,7 +45,7 @@ fn judge_stored(paths: &[&str]) -> Counts {
 
 #[cfg(feature = "library")]
 fn judge_library(first: u64, count: u64, seconds: u64) -> Counts {
-    use compare::{around::around, linked::Linked};
+    use compare::{around::around, inputs::Sort, linked::Linked};
     let start = std::time::Instant::now();
     let mut counts = Counts::default();
     let mut judge = Judge::new(Linked::default());
