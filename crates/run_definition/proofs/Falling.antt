@@ -9,7 +9,8 @@ use Rattle.unifier_definition.specs.Outcome.{Outcome, done, refused, and-then}
 use Rattle.unifier_definition.specs.Property.{Registry}
 use Rattle.unifier_definition.specs.Unify.{Equation, unify-equation, unify-all}
 use Rattle.unifier_definition.specs.Counts.{Counts, counted, lookup-made, count-lookups}
-use Rattle.unifier_definition.proofs.CountLaws.{total, equation-falls, counted-falls}
+use Rattle.unifier_definition.proofs.RunLaws.{equation-falls}
+use Rattle.unifier_definition.proofs.CountLaws.{total, counted-falls}
 
 -- one outcome after another is done: both are
 pub then-done : {A B : Type 0} (o : Outcome A) (k : A → ℕ → Outcome B) {b : B} {s : ℕ} → and-then o k ≡ done b s → (a : A) × (s₁ : ℕ) × (o ≡ done a s₁) × (k a s₁ ≡ done b s)

@@ -1,5 +1,5 @@
 -- The counts of equations one after another, and what a lookup that is counted has to do with `unify`. Assumes nothing.
-use Prim.Native.Nat.{ℕ, zero, suc, _+_, _*_, _≤_, _<_}
+use Prim.Native.Nat.{ℕ, zero, suc, _+_, _*_, _≤_}
 use mathlib.Core.Path.{_≡_, refl, sym, _∙_}
 use mathlib.Core.Bool.{Bool, true, false}
 use mathlib.Core.Option.{Option, none, some}
@@ -12,10 +12,8 @@ use Rattle.unifier_definition.specs.Property.{Access, Registry, exact, s
 use Rattle.unifier_definition.specs.Resolve.{get}
 use Rattle.unifier_definition.specs.Unify.{Equation, _≐_, _≐-property_, unify-found, unify-property, unify-equation, unify-all}
 use Rattle.unifier_definition.specs.Counts.{Counts, counted, lookup-on, access-lookup, lookup-made, count-lookups}
-use Rattle.unifier_definition.proofs.Outcomes.{when-done}
-use Rattle.unifier_definition.proofs.Kept.{log-any}
 use Rattle.unifier_definition.proofs.Fuel.{get-falls, unify-falls}
-use Rattle.unifier_definition.proofs.RunLaws.{registry-any, equation-any, unify-equation-law}
+use Rattle.unifier_definition.proofs.RunLaws.{equation-falls}
 
 -- how many lookups all four are
 abbrev pub total : Counts → ℕ
@@ -96,11 +94,7 @@ module _ (reg : Registry) where
   found-falls σ s t nothing {s′ = s′} e = let z : s ≡ s′ = cc in omega arith
   found-falls σ s t (found rule u) e = omega (arith, unify-falls σ s t u e)
 
-  -- each equation costs a step
-  pub equation-falls : (σ : Log) (s : ℕ) (x : Equation) {τ : Log} {s′ : ℕ} → unify-equation reg σ s x ≡ done τ s′ → s′ < s
-  equation-falls σ s x e = omega (arith, when-done (unify-equation-law (registry-any reg) σ s x (log-any σ) (equation-any x)) e .falls)
-
-  -- and each lookup two
+  -- each lookup costs two steps
   pub lookup-falls : (σ : Log) (s : ℕ) (x : Equation) {f : Found} {τ : Log} {s′ : ℕ} → lookup-made reg σ s x ≡ some f → unify-equation reg σ s x ≡ done τ s′ → s′ + 2 ≤ s
   unfolding lookup-made
   lookup-falls σ s (t ≐ u) l e = absurd (let z : _≡_ {A = ℕ} 0 1 = cc in omega arith)
@@ -113,5 +107,5 @@ module _ (reg : Registry) where
   counted-falls σ s c x {s′ = s′} e = go (lookup-made reg σ s x) refl
     where
       go : (o : Option Found) → lookup-made reg σ s x ≡ o → 2 * total (counted c o) + s′ ≤ 2 * total c + s
-      go none q = omega (arith, counted-none c, equation-falls σ s x e)
+      go none q = omega (arith, counted-none c, equation-falls reg σ s x e)
       go (some f) q = omega (arith, counted-total c (some f), lookup-falls σ s x q e)

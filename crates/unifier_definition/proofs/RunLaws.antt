@@ -1,5 +1,5 @@
 -- What equations unified in order keep, and what that says of a log that began empty. Assumes nothing.
-use Prim.Native.Nat.{ℕ, zero, suc, _+_, _*_, _≤_}
+use Prim.Native.Nat.{ℕ, zero, suc, _+_, _*_, _≤_, _<_}
 use mathlib.Core.Path.{_≡_, refl, sym, ap, _∙_}
 use mathlib.Core.List.{List, [], _∷_, _++_, List·Memᴰ, List·Memᴰ·head, List·Memᴰ·tail}
 use native.Mathlib.Omega.{arith}
@@ -69,13 +69,16 @@ unify-all-append reg σ s (e ∷ es) fs =
     ap (and-then (unify-equation reg σ s e)) (λ i σ₁ s₁. unify-all-append reg σ₁ s₁ es fs i)
     ∙ sym (then-assoc (unify-equation reg σ s e) (λ σ₁ s₁. unify-all reg σ₁ s₁ es) (λ σ₁ s₁. unify-all reg σ₁ s₁ fs))
 
--- what holds of anything
-pub registry-any : (reg : Registry) → Registry-only Any reg
+registry-any : (reg : Registry) → Registry-only Any reg
 registry-any reg = record { hook = λ t e. only-any; shapes = λ k ps e p m. only-any }
 
-pub equation-any : (e : Equation) → Equation-only Any e
+equation-any : (e : Equation) → Equation-only Any e
 equation-any (t ≐ u) = types-only only-any only-any
 equation-any (t ≐-property a) = property-only only-any only-any
+
+-- each equation costs a step
+pub equation-falls : (reg : Registry) (σ : Log) (s : ℕ) (e : Equation) {τ : Log} {s′ : ℕ} → unify-equation reg σ s e ≡ done τ s′ → s′ < s
+equation-falls reg σ s e q = omega (arith, when-done (unify-equation-law (registry-any reg) σ s e (log-any σ) (equation-any e)) q .falls)
 
 -- what holds of any equations unified in order
 pub unify-all-kept : (reg : Registry) (σ : Log) (s : ℕ) (es : List Equation) → Always (Kept Any 0 σ s) (Stopped Any σ s) (unify-all reg σ s es)
