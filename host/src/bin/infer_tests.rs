@@ -126,9 +126,9 @@ fn deep_answered(folder: &str) -> Vec<(Case, Expected)> {
     answered(deep::deep(), folder, "deep")
 }
 
-fn run_corpus(tests: &mut Tests, folder: &str, name: &str) -> [u64; 15] {
-    for (case, expected) in corpus_answered(folder, name) {
-        tests.compare(&case, expected);
+fn run_corpus(tests: &mut Tests, name: &str, cases: &[(Case, Expected)]) -> [u64; 15] {
+    for (case, expected) in cases {
+        tests.compare(case, *expected);
     }
     tests.part(name)
 }
@@ -157,13 +157,11 @@ fn has_refs(case: &Case, answer: &Answer) -> bool {
 }
 
 /// What the finished runs of the inputs for lookups came to: every rule, every pair of rules, all four, and refs.
-fn require_lookups(folder: &str) {
+fn require_lookups(cases: &[(Case, Expected)]) {
     let (mut rules, mut refs) = (Rules::default(), 0);
-    for (case, Expected { answer, .. }) in corpus_answered(folder, LOOKUPS) {
-        if is_done(&answer) {
-            rules.add(answer.lookups());
-            refs += has_refs(&case, &answer) as u64;
-        }
+    for (case, Expected { answer, .. }) in cases.iter().filter(|one| is_done(&one.1.answer)) {
+        rules.add(answer.lookups());
+        refs += has_refs(case, answer) as u64;
     }
     let mut met = rules.met();
     met.push(("refs without a lookup".into(), refs));
@@ -193,10 +191,11 @@ fn run_all(folder: &str) {
     let mut tests = Tests::new();
     println!("{:<10}{}", "answer", row(&std::array::from_fn::<u64, 15, _>(|number| number as u64)));
     for name in CORPUS {
-        let counts = run_corpus(&mut tests, folder, name);
+        let cases = corpus_answered(folder, name);
+        let counts = run_corpus(&mut tests, name, &cases);
         if name == LOOKUPS {
             require_numbers(&counts);
-            require_lookups(folder);
+            require_lookups(&cases);
         }
     }
     run_deep(&mut tests, folder, |case| !is_deepest(case));
