@@ -17,7 +17,6 @@ use Rattle.run_definition.specs.Visits.{visits, resolve-identifiers}
 use Rattle.run_definition.specs.Tables.{made-types}
 use Rattle.unifier_definition.specs.Counts.{no-lookups, count-lookups}
 use Rattle.run_definition.specs.Infer.{registry, infer-types, refusal, output-of}
-use Rattle.run_tables.specs.Lent.{put}
 
 module _ (p : Program) (budget : ℕ) where
   -- the output where the equations are refused
@@ -50,8 +49,3 @@ registry-is img bytes = refl
 pub outermost-gives : (img bytes : List ℕ) {k : ℕ} → length (program img bytes .entries) ≡ k → generate-for (program img bytes) 0 k ≡ generate (program img bytes)
 unfolding generate-for generate from-outermost program outermost
 outermost-gives img bytes e = ap (generate-for (program img bytes) 0) (sym e)
-
--- no words put over a list's
-pub put-none : (t : List ℕ) → put t 0 [] ≡ t
-unfolding put
-put-none t = refl

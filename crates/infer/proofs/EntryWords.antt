@@ -13,12 +13,12 @@ use Rattle.image.proofs.Checked.{laid}
 use Rattle.image.proofs.CheckPassed.{check-passed, work-enough}
 use Rattle.unifier_nodes.specs.Work.{at}
 use Rattle.run_definition.specs.Infer.{infer-types, refusal, output-of, after-check, infer}
-use Rattle.run_tables.specs.Lent.{put, answer-of, cleared, work-after}
+use Rattle.run_answer.specs.Lent.{put, answer-of, cleared, work-after}
 use Rattle.infer.specs.Entry.{Infers}
 use Rattle.infer.specs.Run.{Run-asked, Runs}
-use Rattle.run_tables.specs.declared.Answer.{Answer as Answered}
+use Rattle.run_answer.specs.declared.Answer.{Answer as Answered}
 use Rattle.run_definition.proofs.Demand.{run-number, tables-sound}
-use Rattle.infer.proofs.EntryLaws.{put-none}
+use Rattle.run_answer.proofs.Puts.{put-none}
 
 -- as many words as before
 cleared-length : (n : ℕ) (w : List ℕ) → n ≤ length w → length (cleared n w) ≡ length w
@@ -118,7 +118,7 @@ infers-refused {img} {bytes} {w} {t} {budget} (suc n) e h a = record {
     output = ap (λ m. after-check m img bytes budget (length t)) e
 
     none-put : put t 0 (refusal (suc n) 0 0 .tables) ≡ t
-    none-put = put-none t
+    none-put = put-none t 0
 
     kept : work-after (check img bytes budget (length w)) w ≡ w
     kept = ap (λ m. work-after m w) e

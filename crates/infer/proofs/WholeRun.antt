@@ -25,14 +25,15 @@ use Rattle.run_definition.specs.Tables.{made-types, binding-rows, tables-of}
 use Rattle.run_definition.specs.Infer.{registry, infer-types, refusal, output-of, with-tables}
 use Rattle.run_layout.specs.Layout.{Prepared, Lays-out}
 use Rattle.run_walk.specs.Running.{none-logged, Ready, Ran, Generates}
-use Rattle.run_tables.specs.Lent.{put, answer-of}
+use Rattle.run_answer.specs.Lent.{put, answer-of}
+use Rattle.run_answer.proofs.Puts.{put-none}
 use Rattle.run_tables.specs.Standing.{Slots-stand, all-types, Resolved-run, Finish-asked, Finishes}
 use Rattle.run_apply.specs.Applying.{Applying, Applies, Resolved-to}
 use Rattle.infer.specs.Run.{first-walk, Run-asked, Runs}
 use Rattle.run_layout.specs.declared.Layout.{Layout}
 use Rattle.run_walk.specs.declared.Walk.{Walk}
 use Rattle.run_apply.specs.declared.Pass.{Pass}
-use Rattle.run_tables.specs.declared.Answer.{Answer as Answered}
+use Rattle.run_answer.specs.declared.Answer.{Answer as Answered}
 use Rattle.run_definition.proofs.ProgramScope.{scoped-program, entries-length}
 use Rattle.run_definition.proofs.PositionLaws.{entry-poly}
 use Rattle.run_definition.proofs.PositionsBody.{checked}
@@ -40,7 +41,7 @@ use Rattle.run_definition.proofs.GenerateScope.{generate-scoped}
 use Rattle.run_definition.proofs.Finished.{run-finished, finished-length}
 use Rattle.run_definition.proofs.TableSizes.{finished-words, entries-sized, image-slots}
 use Rattle.run_walk.proofs.Composing.{Layout-at, layout-at, prepared-after, refuses-as}
-use Rattle.infer.proofs.EntryLaws.{equations-refused, visits-refused, run-done, good-none, registry-is, outermost-gives, put-none}
+use Rattle.infer.proofs.EntryLaws.{equations-refused, visits-refused, run-done, good-none, registry-is, outermost-gives}
 
 -- the pass after its equations
 abbrev pub first-pass : Walk → Pass
@@ -50,7 +51,7 @@ first-pass g = record { left = g .left; top = g .top; refused = 0; at = 0 }
 runs-refused : {img bytes w w′ t : List ℕ} {budget : ℕ} (number steps : ℕ) {r : Answered} → output-of budget (length t) (infer-types (program img bytes) budget) ≡ refusal number steps 0
     → answer-of r ≡ refusal number steps 0 .answer → length w′ ≡ length w → Runs img bytes budget w w′ t t r
 unfolding refusal
-runs-refused {t = t} number steps e a len = record { answers = a ∙ sym (ap (λ o. o .answer) e); writes = sym (ap (λ o. put t 0 (o .tables)) e ∙ put-none t); len = len }
+runs-refused {t = t} number steps e a len = record { answers = a ∙ sym (ap (λ o. o .answer) e); writes = sym (ap (λ o. put t 0 (o .tables)) e ∙ put-none t 0); len = len }
 
 module _ {img bytes w w₁ : List ℕ} {budget : ℕ} {lay : Layout} (asked : Run-asked img bytes budget w) (l : Lays-out img w w₁ budget lay) where
   c : Checked-image img bytes budget

@@ -7,8 +7,8 @@ use Rattle.image.specs.Check.{check}
 use Rattle.image.specs.Program.{program}
 use Rattle.run_definition.specs.Infer.{Output, infer}
 use Rattle.run_definition.specs.Rules.{Tables-sound, Run-number}
-use Rattle.run_tables.specs.Lent.{put, answer-of, work-after}
-use Rattle.run_tables.specs.declared.Answer.{Answer as Answered}
+use Rattle.run_answer.specs.Lent.{put, answer-of, work-after}
+use Rattle.run_answer.specs.declared.Answer.{Answer as Answered}
 
 -- demand 3: a run is never stuck, and what holds of its tables
 pub record Never-stuck (img bytes : List ℕ) (o : Output) : Type 0 where

@@ -9,10 +9,10 @@ use Rattle.image.specs.Program.{program}
 use Rattle.unifier_nodes.specs.Work.{at}
 use Rattle.run_definition.specs.Infer.{infer-types, output-of}
 use Rattle.run_definition.specs.Fitting.{Passed}
-use Rattle.run_tables.specs.Lent.{put, answer-of}
+use Rattle.run_answer.specs.Lent.{put, answer-of}
 use Rattle.run_layout.specs.declared.Layout.{Layout}
 use Rattle.run_walk.specs.declared.Walk.{Walk}
-use Rattle.run_tables.specs.declared.Answer.{Answer as Answered}
+use Rattle.run_answer.specs.declared.Answer.{Answer as Answered}
 
 -- the walk that `run` starts with: all steps left, and no lookup counted
 abbrev pub first-walk : ℕ → Layout → Walk

@@ -1,45 +1,17 @@
 // The run: from image check to tables.
 ghost use mathlib.Core.Path.{_≡_};
-ghost use Prim.Native.Nat.{_≤_};
-ghost use lib.ListN.{length};
-ghost use Rattle.run_definition.specs.Infer.{refusal as refusal-of};
-ghost use Rattle.run_tables.specs.Lent.{answer-of, cleared};
 ghost use Rattle.infer.specs.Entry.{Infers};
 ghost use Rattle.infer.specs.Run.{first-walk, Run-asked, Runs};
 use image::Table;
 use image::WORK_WORDS_EACH;
 use image::count;
+pub use run_answer::Answer;
+use run_answer::clear;
+use run_answer::refusal;
 use run_apply::Pass;
 use run_layout::Layout;
-pub use run_tables::Answer;
 use run_walk::Walk;
 use unifier_counts::Counts;
-
-fn refusal(number: u32, steps: u32) -> Answer
-    ensures { λ r. ⌜ answer-of r ≡ refusal-of number steps 0 .answer ⌝ }
-{
-    Answer {
-        number,
-        steps,
-        slots: 0,
-        bindings: 0,
-        table_words: 0,
-        exact: 0,
-        star: 0,
-        hook: 0,
-        nothing: 0,
-    }
-}
-
-// The first n words are 0 then.
-fn clear(w: &mut [u32], n: usize)
-    requires { ⌜ n ≤ length (now w) ⌝ }
-    ensures { λ _. ⌜ now (w .exit) ≡ cleared n (now (w .entry)) ⌝ }
-{
-    for k in 0..n {
-        w[k] = 0;
-    }
-}
 
 // The walk before the first equation.
 fn first_walk(budget: u32, lay: Layout) -> Walk
@@ -74,7 +46,7 @@ fn run(img: &[u32], bytes: &[u8], budget: u32, w: &mut [u32], tables: &mut [u32]
     let left = g.left;
     let number = g.refused;
     if number != 0 {
-        return refusal(number, budget - left);
+        return refusal(number, budget - left, 0);
     }
     let top = g.top;
     let a = run_apply::apply(
@@ -91,7 +63,7 @@ fn run(img: &[u32], bytes: &[u8], budget: u32, w: &mut [u32], tables: &mut [u32]
     let after = a.left;
     let again = a.refused;
     if again != 0 {
-        return refusal(again, budget - after);
+        return refusal(again, budget - after, 0);
     }
     run_tables::finish(w, lay, budget - after, g.next, g.counts, tables)
 }
@@ -108,7 +80,7 @@ pub fn infer_types(
 {
     let number = image_check::check(image, names, budget, work.len());
     if number != 0 {
-        return refusal(number, 0);
+        return refusal(number, 0, 0);
     }
     clear(work, count(image, Table::Slots) as usize + budget as usize);
     let need = WORK_WORDS_EACH * (image.len() + budget as usize);

@@ -12,9 +12,9 @@ use Rattle.unifier_definition.specs.Log.{Log}
 use Rattle.unifier_nodes.specs.Work.{at, Rep, Good}
 use Rattle.unifier_nodes.proofs.Frames.{rep-same, rep-low, good-same}
 use Rattle.run_definition.specs.Tables.{made-types, binding-rows, written-binding, tables-of}
-use Rattle.run_tables.specs.Lent.{put, answer-of}
+use Rattle.run_answer.specs.Lent.{put, answer-of}
+use Rattle.run_answer.specs.declared.Answer.{Answer as Answered}
 use Rattle.run_tables.specs.Standing.{Resolved-run, all-types, Finishes}
-use Rattle.unifier_definition.specs.Counts.{no-lookups}
 use Rattle.unifier_counts.specs.Given.{counts-of}
 use Rattle.unifier_counts.specs.declared.Counts.{Counts}
 use Rattle.run_definition.specs.Infer.{refusal, with-tables}
@@ -103,12 +103,11 @@ module _ {w : List ℕ} {lay : Layout} {made : ℕ} {σ : Log} {types : List Ty}
 
 module _ {w : List ℕ} {lay : Layout} {made : ℕ} {size : Size} (C : Sizes w lay made size) {t : List ℕ} (steps : ℕ) (counts : Counts) where
   -- the tables are longer than the lent words
-  pub too-long : length t < size .words
-      → Finishes w lay made steps counts t t (record { number = 14; steps = steps; slots = 0; bindings = 0; «table_words» = size .words; exact = 0; star = 0; hook = 0; nothing = 0 })
-  unfolding answer-of with-tables refusal no-lookups put
-  too-long l =
+  pub too-long : length t < size .words → {r : Answered} → answer-of r ≡ refusal 14 steps (size .words) .answer → Finishes w lay made steps counts t t r
+  unfolding with-tables refusal put
+  too-long l a =
       record {
-        answers = λ σ types R. let e = C .words σ types R in rw (lt-leb (length (tables R)) (length t) (omega arith), with-tables) (cc);
+        answers = λ σ types R. let e = C .words σ types R in rw (lt-leb (length (tables R)) (length t) (omega arith), with-tables) (a ∙ ap (λ n. refusal 14 steps n .answer) e);
         writes = λ σ types R. let e = C .words σ types R in rw (lt-leb (length (tables R)) (length t) (omega arith), with-tables);
       }
 

@@ -10,9 +10,9 @@ use Rattle.run_definition.specs.Tables.{made-types, binding-rows, tables-of}
 use Rattle.run_definition.specs.Infer.{with-tables}
 use Rattle.unifier_counts.specs.Given.{counts-of}
 use Rattle.unifier_counts.specs.declared.Counts.{Counts}
-use Rattle.run_tables.specs.Lent.{put, answer-of}
+use Rattle.run_answer.specs.Lent.{put, answer-of}
 use Rattle.run_layout.specs.declared.Layout.{Layout}
-use Rattle.run_tables.specs.declared.Answer.{Answer as Answered}
+use Rattle.run_answer.specs.declared.Answer.{Answer as Answered}
 
 -- the slots' types stand from `entries` on, as nodes
 pub record Slots-stand (w : List ℕ) (lay : Layout) (top : ℕ) (types : List Ty) : Type 0 where

@@ -9,24 +9,12 @@ ghost use Rattle.run_tables.specs.Standing.{Finish-asked, Finishes};
 ghost use Rattle.run_tables.specs.Writing.{counting, writing, table, Asks, Emits, Asks-row, Emits-row, Asks-bindings, Emits-bindings, Sizes-bindings, Sizes, Write-asked, Writes};
 use image::refusals;
 use image::type_kinds;
+use run_answer::Answer;
+use run_answer::refusal;
 use run_layout::Layout;
 use unifier_counts::Counts;
 use unifier_nodes::node::Node;
 use unifier_nodes::node::node_at;
-
-// Document 01's answer, and document 02's four counts of lookups: by the exact name, the "*" entry, the hook rule, and nothing.
-#[repr(C)]
-pub struct Answer {
-    pub number: u32,
-    pub steps: u32,
-    pub slots: u32,
-    pub bindings: u32,
-    pub table_words: u32,
-    pub exact: u32,
-    pub star: u32,
-    pub hook: u32,
-    pub nothing: u32,
-}
 
 // Words of the tables, and rows of the binding table.
 struct Size {
@@ -212,17 +200,7 @@ pub fn finish(
     let hook = counts.hook as u32;
     let nothing = counts.nothing as u32;
     if table_words as usize > t.len() {
-        return Answer {
-            number: refusals::TABLE_WORDS,
-            steps,
-            slots: 0,
-            bindings: 0,
-            table_words,
-            exact: 0,
-            star: 0,
-            hook: 0,
-            nothing: 0,
-        };
+        return refusal(refusals::TABLE_WORDS, steps, table_words);
     }
     write(w, lay, made, t);
     let bindings = size.bindings;

@@ -25,7 +25,8 @@ finish-spec =
     (λ c. search needs)
     (λ c. search needs)
     (λ c. search needs)
-    (λ c. too-long (c .before .before .before .before .before .total-size .ensures) _ _ (c .if1 .taken))
+    (λ c κs. search needs)
+    (λ c. too-long (c .before .before .before .before .before .before .total-size .ensures) _ _ (c .before .if1 .taken) (c .refusal .ensures))
     write-requires
     (λ c. search needs)
     returns-2)

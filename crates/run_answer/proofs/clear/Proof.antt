@@ -5,9 +5,9 @@ use lib.ListN.{length, replicate, drop}
 use borrow.Author.Fill.{fill-none, fill-more}
 use borrow.Author.Needs.{needs}
 use native.Mathlib.Omega.{arith}
-use Rattle.run_tables.specs.Lent.{cleared}
-use Rattle.infer.proofs.clear.Statement.{statement}
-use Rattle.infer.proofs.clear.Tie as tie
+use Rattle.run_answer.specs.Lent.{cleared}
+use Rattle.run_answer.proofs.clear.Statement.{statement}
+use Rattle.run_answer.proofs.clear.Tie as tie
 
 abbrev Inv-loop : tie.InvT-loop
 Inv-loop w₀ n k₀ w k = (k ≤ n) × (length w ≡ length w₀) × (w ≡ replicate k 0 ++ drop k w₀)

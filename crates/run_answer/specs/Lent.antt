@@ -3,7 +3,7 @@ use Prim.Native.Nat.{ℕ, zero, suc, _+_}
 use mathlib.Core.List.{List, _++_}
 use lib.ListN.{length, take, drop, replicate}
 use Rattle.run_definition.specs.Infer.{Answer}
-use Rattle.run_tables.specs.declared.Answer.{Answer as Answered}
+use Rattle.run_answer.specs.declared.Answer.{Answer as Answered}
 
 -- words put over a list's from a position on
 unfoldable pub put : List ℕ → ℕ → List ℕ → List ℕ

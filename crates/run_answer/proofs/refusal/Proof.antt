@@ -1,9 +1,9 @@
 use mathlib.Core.Path.{refl}
 use Rattle.unifier_definition.specs.Counts.{no-lookups}
 use Rattle.run_definition.specs.Infer.{refusal}
-use Rattle.run_tables.specs.Lent.{answer-of}
-use Rattle.infer.proofs.refusal.Statement.{statement}
-use Rattle.infer.proofs.refusal.Tie as tie
+use Rattle.run_answer.specs.Lent.{answer-of}
+use Rattle.run_answer.proofs.refusal.Statement.{statement}
+use Rattle.run_answer.proofs.refusal.Tie as tie
 
 returns : tie.Need-returns
 unfolding refusal no-lookups answer-of
