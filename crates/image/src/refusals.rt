@@ -1,4 +1,4 @@
-// The numbers of refusals, in the order in which they are due.
+// The numbers of refusals. 1 to 14 are a run's, in the order in which they are due.
 pub const IMAGE_WORDS: u32 = 1;
 
 pub const NAME_BYTES: u32 = 2;
@@ -26,3 +26,8 @@ pub const CYCLE: u32 = 12;
 pub const OUT_OF_STEPS: u32 = 13;
 
 pub const TABLE_WORDS: u32 = 14;
+
+// A list's own, before any of its screens.
+pub const LIST: u32 = 15;
+
+pub const RANGES: u32 = 16;

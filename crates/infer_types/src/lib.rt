@@ -2,7 +2,8 @@
 ghost use mathlib.Core.Path.{_≡_};
 ghost use Rattle.image.specs.Check.{check as check-of};
 ghost use Rattle.infer.specs.Entry.{Infers};
-use run_tables::Answer;
+ghost use Rattle.batch.specs.Entry.{Batches};
+use run_answer::Answer;
 
 // The image check, and then the run.
 #[no_mangle]
@@ -24,4 +25,19 @@ pub extern "C" fn image_check(image: &[u32], names: &[u8], budget: u32, work: us
     ensures { λ r. ⌜ r ≡ check-of (now (image .entry)) (now (names .entry)) budget work ⌝ }
 {
     image_check::check(image, names, budget, work)
+}
+
+// A list of images, each as by its own run.
+#[no_mangle]
+pub extern "C" fn infer_batch(
+    list: &[u32],
+    images: &[u32],
+    names: &[u8],
+    work: &mut [u32],
+    tables: &mut [u32],
+    answers: &mut [u32],
+) -> u32
+    ensures { λ r. ⌜ Batches (now (list .entry)) (now (images .entry)) (now (names .entry)) (now (work .entry)) (now (work .exit)) (now (tables .entry)) (now (tables .exit)) (now (answers .entry)) (now (answers .exit)) r ⌝ }
+{
+    batch::infer_batch(list, images, names, work, tables, answers)
 }

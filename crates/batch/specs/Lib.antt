@@ -1,0 +1,4 @@
+pub mod Batch
+pub mod Entry
+pub mod Steps
+pub mod Worked
