@@ -1,16 +1,17 @@
 /*
  * Type inference for React screens: the functions of libinfer_types.a, which `rt staticlib infer_types` writes. docs/IMAGE.md says what
- * an image is, what the tables hold and what each number means; host/c/screen.c is a whole host.
+ * an image is, what the tables hold and what each number means; host/c/screen.c is a whole host, host/c/batch.c one with a list.
  *
  * What a call is lent, and what it leaves:
  *
  * - Words stand at multiples of four bytes. A range of length 0 may be NULL.
- * - Work words and table words overlap nothing else that is lent. Image and names are only read, and may overlap each other.
- * - During a call nobody else changes what is lent, or reads work words and table words. Nothing is kept after it.
+ * - Work words, table words and answer words overlap nothing else that is lent. Images, names and list are only read, and may overlap
+ *   each other.
+ * - During a call nobody else changes what is lent, or reads work words, table words and answer words. Nothing is kept after it.
  * - Table words change only if the answer is INFER_TYPES_DONE, and then only the first of them, as many as the answer's table_words.
  *   Work words are untouched after a refusal of 1 to 10 and all 0 after every other answer; what they hold before a call doesn't
- *   matter.
- * - There is no state between calls: calls on different threads need no lock if each has work words and table words of its own.
+ *   matter. What a list leaves is said at infer_batch.
+ * - There is no state between calls: calls on different threads need no lock if each has words of its own to be written to.
  * - Nothing is allocated and no function of the host is called but memset. What is needed beside the lent words is stack: see
  *   INFER_TYPES_STACK_BYTES.
  */
@@ -38,8 +39,8 @@ extern "C" {
 
 /*
  * The most bytes of stack that a call of infer_types takes, of at most INFER_TYPES_LIMIT words and steps, and that a call of
- * image_check takes. The first is below ten MiB for the largest call, below one MiB for 8,192 words and 4,096 steps. host/README.md
- * says where the figures come from.
+ * image_check takes. The first is below ten MiB for the largest call, below one MiB for 8,192 words and 4,096 steps. A call of
+ * infer_batch takes the most that one of its screens would. host/README.md says where the figures come from.
  */
 #define INFER_TYPES_STACK_BYTES(words, budget)                                              \
     (INFER_TYPES_RUN_BYTES(words, budget) > INFER_TYPES_CHECK_BYTES                         \
@@ -47,6 +48,11 @@ extern "C" {
          : (size_t)INFER_TYPES_CHECK_BYTES)
 #define INFER_TYPES_RUN_BYTES(words, budget) (37 * (size_t)(words) + 112 * (size_t)(budget) + 233472)
 #define INFER_TYPES_CHECK_BYTES 851968
+
+/* The words of a row of a list and of its answers, and the most rows of a list. */
+#define INFER_TYPES_LIST_ROW 5
+#define INFER_TYPES_ANSWER_ROW 9
+#define INFER_TYPES_MOST_IMAGES 256
 
 /* The header's words. Those named after a table are its count; the table's offset follows. */
 enum {
@@ -206,8 +212,14 @@ enum {
     INFER_TYPES_REFUSED_CYCLE = 12,
     INFER_TYPES_REFUSED_OUT_OF_STEPS = 13,
     /* the caller's: table_words says how many are wanted */
-    INFER_TYPES_REFUSED_TABLE_WORDS = 14
+    INFER_TYPES_REFUSED_TABLE_WORDS = 14,
+    /* the caller's, of a whole list */
+    INFER_TYPES_REFUSED_LIST = 15,
+    INFER_TYPES_REFUSED_RANGES = 16
 };
+
+/* The number of a screen that was not run, for one before it in the list was refused with INFER_TYPES_REFUSED_TABLE_WORDS. */
+#define INFER_TYPES_NOT_RUN UINT32_C(4294967295)
 
 /*
  * What a call answers: nine words. In a refusal the counts are 0, those of the lookups too; so are the table words, but for
@@ -225,6 +237,15 @@ struct infer_types_answer {
     uint32_t nothing; /* those that found none */
 };
 
+/* A row of a list: where the image and its names start in what is lent for all, their lengths, and the budget. */
+struct infer_types_screen {
+    uint32_t image_start;
+    uint32_t image_words;
+    uint32_t name_start;
+    uint32_t name_bytes;
+    uint32_t budget;
+};
+
 /* The types of an image's slots and the bindings of their variables, in at most so many steps. */
 struct infer_types_answer infer_types(const uint32_t *image, size_t image_words,
                                       const uint8_t *names, size_t name_bytes, uint32_t budget,
@@ -234,6 +255,27 @@ struct infer_types_answer infer_types(const uint32_t *image, size_t image_words,
 /* The check that every run begins with: INFER_TYPES_DONE, or a refusal of 1 to 10. Takes the length of the work words, and writes nothing. */
 uint32_t image_check(const uint32_t *image, size_t image_words,
                      const uint8_t *names, size_t name_bytes, uint32_t budget, size_t work_words);
+
+/*
+ * The same as infer_types for each screen of a list. List and answers are rows of words, and nothing else stands in arrays of struct
+ * infer_types_screen and struct infer_types_answer: such arrays may be handed over by a cast.
+ *
+ * Each screen has the answer that infer_types would give it with all the work words and with the table words that remain. So lend the
+ * most INFER_TYPES_WORK_WORDS of a screen; of more, each takes only its own, and all are cleared once at the end. The first screen that is
+ * refused with INFER_TYPES_REFUSED_TABLE_WORDS ends the list: the rows after it have the number INFER_TYPES_NOT_RUN and are 0 else.
+ * Other refusals don't end it.
+ *
+ * - INFER_TYPES_DONE: the list was gone through. The answers stand from the first answer word on, a row for each screen, and the tables
+ *   of the screens that are done from the first table word on, one after another; the words after them are untouched. Work words are
+ *   all 0 if the number of a screen is 0 or 11 to 14, else untouched.
+ * - INFER_TYPES_REFUSED_LIST: more than INFER_TYPES_MOST_IMAGES rows, words after the last whole row, or fewer answer words than
+ *   INFER_TYPES_ANSWER_ROW for each. Nothing is written.
+ * - INFER_TYPES_REFUSED_RANGES: else, a row whose image isn't within the image words or whose names aren't within the name bytes.
+ *   Nothing is written.
+ */
+uint32_t infer_batch(const uint32_t *list, size_t list_words, const uint32_t *images, size_t image_words,
+                     const uint8_t *names, size_t name_bytes, uint32_t *work, size_t work_words,
+                     uint32_t *tables, size_t table_words, uint32_t *answers, size_t answer_words);
 
 #ifdef __cplusplus
 }

@@ -9,48 +9,25 @@ REFERENCE is the folder of the reference model (generate.py, requests/).
 import struct
 import sys
 
-from corpus import NONE, number, run, word
-
-
-def words(values):
-    return number(len(values)) + b"".join(map(word, values))
+from corpus import Reader, number, run, word, words_of
 
 
 def record(image, names, budget, work, answer, tables):
     lookups = answer.exact, answer.star, answer.hook, answer.nothing
-    return (words(image) + number(len(names)) + bytes(names) + number(budget) + number(work)
+    return (words_of(image) + number(len(names)) + bytes(names) + number(budget) + number(work)
             + number(answer.number) + word(answer.steps) + number(answer.slots)
-            + number(answer.binds) + b"".join(map(word, lookups)) + words(tables))
+            + number(answer.binds) + b"".join(map(word, lookups)) + words_of(tables))
 
 
-class Reader:
-    def __init__(self, data):
-        self.data, self.at = data, 0
-
-    def number(self):
-        value = shift = 0
-        while True:
-            digit = self.data[self.at]
-            self.at += 1
-            value |= (digit & 127) << shift
-            if digit < 128:
-                return value
-            shift += 7
-
-    def words(self):
-        return [(self.number() - 1) & NONE for _ in range(self.number())]
-
-    def inputs(self):
-        """Each record's (image, names, budget, work); its answer is passed over."""
-        while self.at < len(self.data):
-            image, count = self.words(), self.number()
-            names = self.data[self.at:self.at + count]
-            self.at += count
-            budget, work = self.number(), self.number()
-            for _ in range(8):
-                self.number()
-            self.words()
-            yield image, names, budget, work
+def read(data):
+    """Each record's (image, names, budget, work); its answer is passed over."""
+    reader = Reader(data)
+    while not reader.is_at_end():
+        image, names = reader.words(), reader.bytes()
+        budget, work = reader.numbers(2)
+        reader.numbers(8)
+        reader.words()
+        yield image, names, budget, work
 
 
 def generated(generate, seed, count, most):
@@ -74,7 +51,7 @@ def main():
         inputs = generated(generate, seed, count, most)
     else:
         with open(rest[0], "rb") as file:
-            inputs = list(Reader(file.read()).inputs())
+            inputs = list(read(file.read()))
     with open(rest[-1], "wb") as out:
         for image, names, budget, work in inputs:
             out.write(record(image, names, budget, work, *run(image, names, budget, work)))

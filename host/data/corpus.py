@@ -1,7 +1,8 @@
-"""Inputs with the answers of the reference model, in the formats that src/corpus.rs and src/answers.rs describe.
+"""Inputs with the answers of the reference model. src/corpus.rs, src/answers.rs and src/lists.rs describe the formats.
 
     python3 host/data/corpus.py REFERENCE make              writes the corpus beside this file
-    python3 host/data/corpus.py REFERENCE compare FILE..    holds the answers of files to the model's
+    python3 host/data/corpus.py REFERENCE lists             writes the lists of screens beside this file
+    python3 host/data/corpus.py REFERENCE compare FILE..    holds the answers of files, FILE.lists too, to the model's
     python3 host/data/corpus.py REFERENCE answers FILE..    writes the whole run's answers beside each file
 
 REFERENCE is the folder of the reference model (model.py, generate.py, rows.py, requests/).
@@ -17,8 +18,11 @@ from collections import Counter
 NONE = 0xFFFFFFFF
 LIMIT = 65_536
 MOST_TABLES = 16_777_216
-LANDED = 1                      # of document 02 the answers have 2.1, and no later request
+LANDED = 2                      # of document 02 the answers have 2.1 and 2.2, and no later request
 LONGEST_LOOKUPS = 2_000         # words, and name bytes; longer inputs are those that `lengths` makes
+LIST_ROW, ANSWER_ROW, MOST_ROWS = 5, 9, 256
+LENT = "work_len", "table_len", "answer_len"
+HERE = os.path.dirname(os.path.abspath(__file__))
 
 
 def number(value):
@@ -32,6 +36,10 @@ def number(value):
 
 def word(value):
     return number((value + 1) & NONE)
+
+
+def words_of(values):
+    return number(len(values)) + b"".join(map(word, values))
 
 
 class Writer:
@@ -48,8 +56,7 @@ class Writer:
 
     def whole(self, words, names, budget, work):
         self.words, self.names = list(words), bytes(names)
-        self.out += number(0) + number(len(words)) + b"".join(map(word, words))
-        self.out += number(len(names)) + names
+        self.out += number(0) + words_of(words) + number(len(names)) + names
         self.finish(words, names, budget, work)
 
     def changed(self, words, name_count, budget, work):
@@ -66,34 +73,52 @@ def resized(items, count, filler):
     return items[:count] + filler * (count - len(items))
 
 
-def read(data):
-    """(words, names, budget, work, answer) of each record."""
-    at, words, names = 0, [], b""
+class Reader:
+    def __init__(self, data):
+        self.data, self.at = data, 0
 
-    def take():
-        nonlocal at
+    def is_at_end(self):
+        return self.at == len(self.data)
+
+    def number(self):
         value = shift = 0
         while True:
-            value |= (data[at] & 127) << shift
-            shift += 7
-            at += 1
-            if data[at - 1] < 128:
+            digit = self.data[self.at]
+            self.at += 1
+            value |= (digit & 127) << shift
+            if digit < 128:
                 return value
+            shift += 7
 
-    while at < len(data):
-        if take() == 0:
-            words = [(take() - 1) & NONE for _ in range(take())]
-            count = take()
-            names = bytes(data[at:at + count])
-            at += count
+    def numbers(self, count):
+        return [self.number() for _ in range(count)]
+
+    def word(self):
+        return (self.number() - 1) & NONE
+
+    def words(self):
+        return [self.word() for _ in range(self.number())]
+
+    def bytes(self):
+        count = self.number()
+        self.at += count
+        return bytes(self.data[self.at - count:self.at])
+
+
+def read(data):
+    """(words, names, budget, work, answer) of each record."""
+    reader, words, names = Reader(data), [], b""
+    while not reader.is_at_end():
+        if reader.number() == 0:
+            words, names = reader.words(), reader.bytes()
             now_words, now_names = words, names
         else:
-            now_words = resized(words, take(), [0])
-            for _ in range(take()):
-                position = take()
-                now_words[position] = (take() - 1) & NONE
-            now_names = resized(names, take(), b"\0")
-        yield now_words, now_names, take(), take(), take()
+            now_words = resized(words, reader.number(), [0])
+            for _ in range(reader.number()):
+                position = reader.number()
+                now_words[position] = reader.word()
+            now_names = resized(names, reader.number(), b"\0")
+        yield now_words, now_names, *reader.numbers(3)
 
 
 def enough(words, budget):
@@ -194,7 +219,6 @@ def lookups(rng, writer, tries, each):
 
 
 def make(model, generate):
-    here = os.path.dirname(os.path.abspath(__file__))
     parts = {
         "small": lambda rng, w: images(rng, w, generate, [rng.choice((150, 250, 400, 600))
                                                           for _ in range(1_200)], 9),
@@ -207,13 +231,16 @@ def make(model, generate):
     for name, part in parts.items():
         writer = Writer(model.check)
         part(random.Random(name), writer)
-        with open(os.path.join(here, name + ".corpus"), "wb") as file:
+        with open(os.path.join(HERE, name + ".corpus"), "wb") as file:
             file.write(writer.out)
         print(name, len(writer.out), "bytes", sorted(writer.answers.items()))
 
 
 def compare(model, files):
     for path in files:
+        if path.endswith(".lists"):
+            compare_lists(path)
+            continue
         answers = Counter()
         with open(path, "rb") as file:
             for at, (words, names, budget, work, answer) in enumerate(read(file.read())):
@@ -241,6 +268,18 @@ def run(words, names, budget, work):
     return answer, written["tables"]
 
 
+def stored(answer, tables):
+    """An answer as src/answers.rs reads it."""
+    out = number(answer.number)
+    if answer.number in (0, 11, 12, 13, 14):
+        out += number(answer.steps)
+    if answer.number == 14:
+        out += number(answer.table_words)
+    if answer.number == 0:
+        out += b"".join(map(number, answer[2:])) + struct.pack("<Q", sum_of(tables))
+    return out
+
+
 def answers(files):
     for path in files:
         out, counts = bytearray(), Counter()
@@ -248,24 +287,129 @@ def answers(files):
             for words, names, budget, work, _ in read(file.read()):
                 answer, tables = run(words, names, budget, work)
                 counts[answer.number] += 1
-                out += number(answer.number)
-                if answer.number == 0 or answer.number > 10:
-                    out += number(answer.steps)
-                if answer.number == 0:
-                    out += b"".join(map(number, answer[2:])) + struct.pack("<Q", sum_of(tables))
+                out += stored(answer, tables)
         with open(os.path.splitext(path)[0] + ".answers", "wb") as file:
             file.write(out)
         print(path, len(out), "bytes", sorted(counts.items()))
 
 
+def called(case):
+    """The model's number of a list, and the answers of its rows, each with its own tables."""
+    import requests
+    from requests.base import Answer
+    call, written = requests.batch(**case, rules=requests.as_of(LANDED))
+    rows, tables = [], written["tables"]
+    for at in range(0, len(written["answers"]), ANSWER_ROW):
+        answer = Answer(*written["answers"][at:at + ANSWER_ROW])
+        count = answer.table_words if answer.number == 0 else 0
+        rows.append((answer, tables[:count]))
+        tables = tables[count:]
+    return call.number, rows
+
+
+def without_zeros(items):
+    """All but the zeros at the end."""
+    count = len(items)
+    while count and items[count - 1] == 0:
+        count -= 1
+    return items[:count]
+
+
+def list_record(case):
+    """What a list lends, as src/lists.rs reads it."""
+    images, names = case["image_words"], case["name_bytes"]
+    kept = without_zeros(names)
+    out = words_of(case["list_words"]) + number(len(images)) + words_of(without_zeros(images))
+    out += number(len(names)) + number(len(kept)) + kept
+    return out + b"".join(number(case[lent]) for lent in LENT)
+
+
+def read_list(reader):
+    listed, image_count = reader.words(), reader.number()
+    images, name_count = resized(reader.words(), image_count, [0]), reader.number()
+    names = resized(reader.bytes(), name_count, b"\0")
+    return {"list_words": listed, "image_words": images, "name_bytes": names,
+            **dict(zip(LENT, reader.numbers(len(LENT))))}
+
+
+def list_answers(call, rows):
+    return number(call) + b"".join(stored(*row) for row in rows)
+
+
+def place_of(at, count):
+    return "first" if at == 0 else "last" if at == count - 1 else "between"
+
+
+def sort_of_list(case, call, rows):
+    """Why a list is refused; else how many rows it has, their numbers, and where one of them is 14."""
+    listed, lent = case["list_words"], {0: len(case["image_words"]), 2: len(case["name_bytes"])}
+    count, over = divmod(len(listed), LIST_ROW)
+    size = count if count < 2 or count >= MOST_ROWS else 2
+    if call == 15:
+        return call, size, over > 0, case["answer_len"] < ANSWER_ROW * count
+    if call == 16:
+        return call, size, tuple((place_of(at, count), field) for at in range(count) for field in lent
+                                 if sum(listed[LIST_ROW * at + field:][:2]) > lent[field])
+    numbers = [answer.number for answer, _ in rows]
+    return call, size, frozenset(numbers), 14 in numbers and place_of(numbers.index(14), count)
+
+
+def lengthen(rng, case):
+    """A range of one row becomes as long as an image or its names may be, or a little longer; zeros are lent for it."""
+    listed = case["list_words"]
+    at = LIST_ROW * rng.randrange(len(listed) // LIST_ROW) + rng.choice((0, 2))
+    listed[at + 1] = LIMIT + rng.choice((0, 1, 1, LIMIT))
+    lent, zero = ("image_words", [0]) if at % LIST_ROW == 0 else ("name_bytes", b"\0")
+    if listed[at] <= len(case[lent]):
+        case[lent] += zero * (listed[at] + listed[at + 1] - len(case[lent]))
+    case["work_len"] += 8 * LIMIT * rng.randint(0, 1)
+
+
+def lists(tries, each, lengthened):
+    """Lists by document 02's generator: so many tries, so many kept of each sort, and so many more made longer."""
+    from requests import as_of, cases
+    out, kept, calls, answered = bytearray(), Counter(), Counter(), Counter()
+    for seed in range(tries):
+        case = cases.case("batch", seed, as_of(LANDED))
+        is_longer = seed >= tries - lengthened and len(case["list_words"]) >= LIST_ROW
+        if is_longer:
+            lengthen(random.Random(seed), case)
+        call, rows = called(case)
+        sort = is_longer, sort_of_list(case, call, rows)
+        kept[sort] += 1
+        if kept[sort] <= each:
+            out += list_record(case) + list_answers(call, rows)
+            calls[call] += 1
+            answered.update(answer.number for answer, _ in rows)
+    with open(os.path.join(HERE, "batch.lists"), "wb") as file:
+        file.write(out)
+    print("batch", len(out), "bytes", sorted(calls.items()), "rows", sorted(answered.items()))
+
+
+def compare_lists(path):
+    calls = Counter()
+    with open(path, "rb") as file:
+        reader = Reader(file.read())
+    while not reader.is_at_end():
+        call, rows = called(read_list(reader))
+        right = list_answers(call, rows)
+        if not reader.data.startswith(right, reader.at):
+            sys.exit("%s, record %d: the model answers %d %s" % (path, sum(calls.values()), call, rows))
+        reader.at += len(right)
+        calls[call] += 1
+    print(path, sum(calls.values()), "agree", sorted(calls.items()))
+
+
 def main():
-    if len(sys.argv) < 3 or sys.argv[2] not in ("make", "compare", "answers"):
+    if len(sys.argv) < 3 or sys.argv[2] not in ("make", "lists", "compare", "answers"):
         sys.exit(__doc__)
     sys.path.insert(0, sys.argv[1])
     import generate
     import model
     if sys.argv[2] == "make":
         make(model, generate)
+    elif sys.argv[2] == "lists":
+        lists(4_000, 2, 300)
     elif sys.argv[2] == "compare":
         compare(model, sys.argv[3:])
     else:

@@ -11,6 +11,10 @@ const NEST: u32 = 1_364;
 /// The name of the one that takes over 8 MiB of stack.
 pub const DEEPEST: &str = "copies of phis under get, in functions in each other";
 
+pub fn is_deepest(case: &Case) -> bool {
+    case.name == DEEPEST
+}
+
 /// Names and inputs, in the order of their stored answers.
 pub fn deep() -> Vec<Case> {
     let mut cases = vec![];

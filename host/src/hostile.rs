@@ -2,9 +2,22 @@
 
 use crate::image::*;
 use crate::random::Random;
+use std::time::Duration;
+
+extern "C" {
+    fn clock() -> i64;
+}
 
 const WORDS: usize = 65_536;
 const BYTES: usize = 65_536;
+/// Each may take the processor so long.
+pub const MOST_TIME: Duration = Duration::from_secs(1);
+
+/// What the program has taken of the processor.
+pub fn processor_time() -> Duration {
+    // SAFETY: gives a number of microseconds.
+    Duration::from_micros(unsafe { clock() } as u64)
+}
 
 struct Cases(Vec<Case>);
 

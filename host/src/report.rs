@@ -2,7 +2,8 @@
 
 use crate::corpus;
 use crate::image::{Case, Input};
-use std::sync::atomic::{AtomicPtr, Ordering};
+use std::fmt::Debug;
+use std::sync::Mutex;
 
 extern "C" {
     fn signal(number: i32, handler: extern "C" fn(i32)) -> usize;
@@ -13,14 +14,52 @@ extern "C" {
 const FAULTS: [i32; 5] = [4, 7, 8, 11, 14];
 /// No call is waited for longer than so many seconds.
 const MOST_SECONDS: u32 = 60;
-const DIFFERENCE: &str = "difference.corpus"; // beside the program
+/// The file that a case is left in, beside the program.
+const DIFFERENCE: &str = "difference";
+/// At most so many words or bytes are printed.
+const MOST_PRINTED: usize = 2_000;
+
+/// A case of some kind.
+pub trait Tested: Sync {
+    fn name(&self) -> &str;
+    /// What is lent, in a line or a few.
+    fn describe(&self) -> String;
+    /// How files of such cases end, and one that has this case alone.
+    fn file(&self) -> (&'static str, Vec<u8>);
+}
+
+impl Tested for Case {
+    fn name(&self) -> &str {
+        &self.name
+    }
+
+    fn describe(&self) -> String {
+        let Input { image, names, budget, work } = &self.input;
+        let lengths = format!("{} words, {} name bytes", image.len(), names.len());
+        let contents = if_short("image", image) + &if_short("names", names);
+        format!("{lengths}, budget {budget}, work {work}{contents}")
+    }
+
+    fn file(&self) -> (&'static str, Vec<u8>) {
+        let mut file = vec![];
+        corpus::write(&mut file, self);
+        ("corpus", file)
+    }
+}
+
+/// Words or bytes on a line of their own, if they aren't many.
+pub fn if_short<T: Debug>(what: &str, items: &[T]) -> String {
+    if items.len() > MOST_PRINTED {
+        return String::new();
+    }
+    format!("\n{what} {items:?}")
+}
 
 /// The case that is being tested, for the message of a fault.
-static CURRENT: AtomicPtr<Case> = AtomicPtr::new(std::ptr::null_mut());
+static CURRENT: Mutex<Option<&dyn Tested>> = Mutex::new(None);
 
 extern "C" fn on_fault(number: i32) {
-    // SAFETY: set from a case that lives while it is tested.
-    if let Some(case) = unsafe { CURRENT.load(Ordering::Relaxed).as_ref() } {
+    if let Ok(Some(case)) = CURRENT.try_lock().map(|current| *current) {
         fail(&format!("signal {number}"), case);
     }
     std::process::exit(2);
@@ -35,28 +74,34 @@ pub fn watch() {
 }
 
 /// A call for this case begins; the case has to live until the next one.
-pub fn start(case: &Case) {
-    CURRENT.store(case as *const Case as *mut Case, Ordering::Relaxed);
+pub fn start(case: &dyn Tested) {
+    // SAFETY: it lives while it is tested, and a fault meanwhile is all that looks at it.
+    let current = unsafe { std::mem::transmute::<&dyn Tested, &'static dyn Tested>(case) };
+    *CURRENT.lock().expect("no other holder") = Some(current);
     // SAFETY: asks for a signal, which is handled.
     unsafe { alarm(MOST_SECONDS) };
 }
 
 /// Prints the case, leaves it in a file and ends the program.
-pub fn fail(what: &str, case: &Case) -> ! {
-    let Input { image, names, budget, work } = &case.input;
-    println!("FAILED: {}: {what}", case.name);
-    println!("{} words, {} name bytes, budget {budget}, work {work}", image.len(), names.len());
-    if image.len() <= 2_000 {
-        println!("image {image:?}\nnames {names:?}");
-    }
-    let mut file = vec![];
-    corpus::write(&mut file, case);
-    let path = std::env::current_exe().unwrap_or_default().with_file_name(DIFFERENCE);
+pub fn fail(what: &str, case: &dyn Tested) -> ! {
+    println!("FAILED: {}: {what}", case.name());
+    println!("{}", case.describe());
+    let (ending, file) = case.file();
+    let name = format!("{DIFFERENCE}.{ending}");
+    let path = std::env::current_exe().unwrap_or_default().with_file_name(name);
     match std::fs::write(&path, file) {
         Ok(()) => println!("it is left in {}", path.display()),
         Err(error) => println!("{} can't be written: {error}", path.display()),
     }
     std::process::exit(1);
+}
+
+/// Ends the program if something that is to be tested never came up.
+pub fn require(what: &str, count: u64) {
+    if count == 0 {
+        println!("FAILED: no {what}");
+        std::process::exit(1);
+    }
 }
 
 /// A row of numbers, one for each answer.

@@ -6,7 +6,7 @@ use host::image::{
     VERSION,
 };
 use infer_image::shapes;
-use infer_types::{Answer, Refusal, LIMIT};
+use infer_types::{Answer, Refusal, ANSWER_ROW, LIMIT, LIST_ROW, MOST_IMAGES};
 use std::collections::HashMap;
 use std::fmt::Debug;
 use std::mem::{offset_of, size_of};
@@ -99,25 +99,41 @@ fn the_refusals_are_the_bindings() {
         ("CYCLE", Refusal::CYCLE),
         ("OUT_OF_STEPS", Refusal::OUT_OF_STEPS),
         ("TABLE_WORDS", Refusal::TABLE_WORDS),
+        ("LIST", Refusal::LIST),
+        ("RANGES", Refusal::RANGES),
     ];
     let constants = constants();
     for (number, (name, bindings)) in (1..).zip(names) {
         assert_eq!((bindings, constants.get(&format!("REFUSED_{name}"))), (number, Some(&number)), "{name}");
     }
+    assert_eq!(constants.get("NOT_RUN"), Some(&Refusal::NOT_RUN));
     assert_eq!(constants.get("LIMIT"), Some(&(LIMIT as u32)));
 }
 
-/// The fields of the header's answer, each of which is a word: that many words in this order are the binding's answer.
+/// The fields of one of the header's structs, each of which is a word.
+fn fields(of: &str) -> Vec<String> {
+    let header = read("infer_types.h");
+    let start = format!("struct {of} {{");
+    let lines = header.lines().skip_while(|line| *line != start).skip(1).take_while(|line| *line != "};");
+    let field = |line: &str| Some(line.trim().strip_prefix("uint32_t ")?.split_once(';')?.0.to_string());
+    lines.map(|line| field(line).expect(line)).collect()
+}
+
+#[test]
+fn the_rows_of_a_list_are_the_bindings() {
+    let constants = constants();
+    for (name, number) in [("LIST_ROW", LIST_ROW), ("ANSWER_ROW", ANSWER_ROW), ("MOST_IMAGES", MOST_IMAGES)] {
+        assert_eq!(constants.get(name), Some(&(number as u32)), "{name}");
+    }
+    let row = fields("infer_types_screen");
+    assert_eq!(row, ["image_start", "image_words", "name_start", "name_bytes", "budget"]);
+    assert_eq!((row.len(), fields("infer_types_answer").len()), (LIST_ROW, ANSWER_ROW));
+}
+
+/// That many words in this order are the binding's answer, and one that is read from a row.
 #[test]
 fn the_answer_is_the_bindings() {
-    let header = read("infer_types.h");
-    let fields = header.lines().skip_while(|line| *line != "struct infer_types_answer {").skip(1);
-    let fields: Vec<&str> = fields
-        .take_while(|line| *line != "};")
-        .map(|line| {
-            line.trim().strip_prefix("uint32_t ").and_then(|rest| rest.split_once(';')).expect(line).0
-        })
-        .collect();
+    let fields = fields("infer_types_answer");
     let bindings = [
         ("number", offset_of!(Answer, number)),
         ("steps", offset_of!(Answer, steps)),
@@ -134,6 +150,10 @@ fn the_answer_is_the_bindings() {
         assert_eq!(offset, 4 * word, "{name}");
     }
     assert_eq!(size_of::<Answer>(), 4 * bindings.len());
+    let Answer { number, steps, slots, bindings, table_words, exact, star, hook, nothing } =
+        Answer::of_row(&[0, 1, 2, 3, 4, 5, 6, 7, 8]);
+    let words = [number, steps, slots, bindings, table_words, exact, star, hook, nothing];
+    assert_eq!(words, [0, 1, 2, 3, 4, 5, 6, 7, 8]);
 }
 
 /// A type of each kind, in the order of the kinds.

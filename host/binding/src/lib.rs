@@ -12,9 +12,10 @@
 //! assert_eq!(tables.of(out).to_string(), "primitive");
 //! ```
 //!
-//! `infer_types` lends what the library needs, and a `Runner` does so for many images; `infer_types_into` takes the
-//! words that a host lends itself.
+//! `infer_types` lends what the library needs, `infer_batch` for a list of screens, and a `Runner` for many of either;
+//! `infer_types_into` and `infer_batch_into` take the words that a host lends itself.
 
+mod batch;
 mod inferred;
 mod lookups;
 mod refusal;
@@ -22,6 +23,7 @@ mod runner;
 mod stack;
 mod tables;
 
+pub use batch::{Screen, ScreenRefused, ANSWER_ROW, LIST_ROW, MOST_IMAGES};
 pub use infer_image::*;
 pub use inferred::{Inferred, Operands, TypeKind};
 pub use lookups::Lookups;
@@ -56,6 +58,15 @@ impl Answer {
     /// The number of a run that succeeded.
     pub const DONE: u32 = 0;
 
+    /// The answer in a row of nine words, as `infer_batch_into` leaves one for each screen. Panics at any other number
+    /// of words.
+    pub fn of_row(row: &[u32]) -> Answer {
+        let &[number, steps, slots, bindings, table_words, exact, star, hook, nothing] = row else {
+            panic!("a row of {} words", row.len());
+        };
+        Answer { number, steps, slots, bindings, table_words, exact, star, hook, nothing }
+    }
+
     /// The property lookups of the run, by what gave each its type: its last four words.
     pub fn lookups(&self) -> Lookups {
         Lookups { exact_name: self.exact, star_entry: self.star, hook_rule: self.hook, nothing: self.nothing }
@@ -87,6 +98,21 @@ mod linked {
             tables: *mut u32,
             tables_len: usize,
         ) -> Answer;
+
+        pub fn infer_batch(
+            list: *const u32,
+            list_len: usize,
+            images: *const u32,
+            images_len: usize,
+            names: *const u8,
+            names_len: usize,
+            work: *mut u32,
+            work_len: usize,
+            tables: *mut u32,
+            tables_len: usize,
+            answers: *mut u32,
+            answers_len: usize,
+        ) -> u32;
     }
 }
 
@@ -135,6 +161,49 @@ pub fn infer_types_into(
     }
 }
 
+/// One call of the library over a list of images, with lent work, table and answer words, on the stack of the caller.
+///
+/// A row of the list is `LIST_ROW` words: where the image starts in `images` and its words, where its names start in
+/// `names` and their bytes, and its budget. There are at most `MOST_IMAGES` rows, and `ANSWER_ROW` answer words for
+/// each. The call answers 0 if it has gone through the list, and then each row has its answer (`Answer::of_row`) from
+/// the first answer word on; the tables of the screens that are done stand one after another from the first table word
+/// on. It answers `Refusal::LIST` or `Refusal::RANGES` if the list doesn't fit what is lent, and leaves all of it as it
+/// was.
+///
+/// Each screen has the answer of its own call with all work words and the table words that remain. The first one that is
+/// refused with 14 ends the list; those after it have the number `Refusal::NOT_RUN`.
+///
+/// Words past those written keep what they held. The work words are all zero afterwards if the check of one screen has
+/// passed, else untouched. The stack has to have the most `stack_bytes` of a screen left, or the process ends.
+pub fn infer_batch_into(
+    list: &[u32],
+    images: &[u32],
+    names: &[u8],
+    work: &mut [u32],
+    tables: &mut [u32],
+    answers: &mut [u32],
+) -> u32 {
+    // SAFETY: each pointer comes with its slice's length; the library keeps none of them, reads list, images and names,
+    // and writes within work, tables and answers alone (its contract, proved). The slices can't overlap: three are
+    // exclusive.
+    unsafe {
+        linked::infer_batch(
+            list.as_ptr(),
+            list.len(),
+            images.as_ptr(),
+            images.len(),
+            names.as_ptr(),
+            names.len(),
+            work.as_mut_ptr(),
+            work.len(),
+            tables.as_mut_ptr(),
+            tables.len(),
+            answers.as_mut_ptr(),
+            answers.len(),
+        )
+    }
+}
+
 /// The types of an image's slots and the bindings of their variables, in at most so many steps: one run of a new
 /// `Runner`, which says what is lent. It takes at most 1 MiB of the caller's stack, and panics if the system gives no
 /// thread for a deeper one.
@@ -142,4 +211,10 @@ pub fn infer_types(image: &[u32], names: &[u8], budget: u32) -> Result<Tables, R
     let mut runner = Runner::new();
     runner.infer_types(image, names, budget)?;
     Ok(runner.into_tables())
+}
+
+/// The types of every screen of a list, in its order: one run of a new `Runner`, which says what is lent. It takes at
+/// most 1 MiB of the caller's stack, and panics if the system gives no thread for a deeper one.
+pub fn infer_batch(screens: &[Screen]) -> Vec<Result<Tables, ScreenRefused>> {
+    Runner::new().infer_batch(screens)
 }

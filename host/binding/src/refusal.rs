@@ -1,5 +1,6 @@
 //! Refusals: a number, and a sentence of help.
 
+use crate::parts::NONE;
 use crate::Answer;
 use std::fmt;
 
@@ -36,15 +37,28 @@ impl Refusal {
     pub const CYCLE: u32 = 12;
     pub const OUT_OF_STEPS: u32 = 13;
     pub const TABLE_WORDS: u32 = 14;
+    /// Of a whole list, as the next: no screen is run.
+    pub const LIST: u32 = 15;
+    pub const RANGES: u32 = 16;
+    /// Of a screen after the one that ended its list with 14.
+    pub const NOT_RUN: u32 = NONE;
 
     pub(crate) fn new(answer: Answer) -> Refusal {
         Refusal { number: answer.number, steps: answer.steps, table_words: answer.table_words }
     }
 
+    pub(crate) fn not_run() -> Refusal {
+        Refusal { number: Refusal::NOT_RUN, steps: 0, table_words: 0 }
+    }
+
     /// As document 01 groups them; 13 is the caller's too, who may allow more steps.
     pub fn fault(&self) -> Fault {
         match self.number {
-            Self::IMAGE_WORDS..=Self::WORK_WORDS | Self::TABLE_WORDS => Fault::Caller,
+            Self::IMAGE_WORDS..=Self::WORK_WORDS
+            | Self::TABLE_WORDS
+            | Self::LIST
+            | Self::RANGES
+            | Self::NOT_RUN => Fault::Caller,
             Self::EMPTY_PHI..=Self::OUT_OF_STEPS => Fault::ScreenAuthor,
             _ => Fault::ImageWriter,
         }
@@ -89,6 +103,15 @@ impl Refusal {
             Self::TABLE_WORDS => {
                 "The tables are longer than the words that may be lent: lend as many as are wanted, or let a Runner do so (table_words_at_most)."
             }
+            Self::LIST => {
+                "The list has over 256 rows or words after its last whole one, or fewer answer words are lent than nine for each: look at what was lent."
+            }
+            Self::RANGES => {
+                "A row of the list names image words or name bytes that aren't lent: look at its starts and lengths."
+            }
+            Self::NOT_RUN => {
+                "The tables of a screen before it were longer than what remained of the table words, which ended the list: lend more, or run the rest as another list."
+            }
             _ => "This number is unknown: the library is newer than this crate.",
         }
     }
@@ -96,7 +119,10 @@ impl Refusal {
 
 impl fmt::Display for Refusal {
     fn fmt(&self, f: &mut fmt::Formatter<'_>) -> fmt::Result {
-        write!(f, "refused with {}: {}", self.number, self.help())
+        match self.number {
+            Self::NOT_RUN => write!(f, "not run: {}", self.help()),
+            number => write!(f, "refused with {number}: {}", self.help()),
+        }
     }
 }
 

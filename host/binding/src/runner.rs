@@ -1,14 +1,44 @@
 //! Runs of many images, with words and steps lent as they are needed.
 
-use crate::stack::{stack_bytes, with_stack};
-use crate::{infer_types_into, work_words, Answer, Refusal, Tables, LIMIT};
+use crate::batch::{Lists, Screen};
+use crate::stack::with_stack;
+use crate::{infer_types_into, Answer, Refusal, Tables, LIMIT};
 
 /// Table words that are lent at most, unless the host says otherwise: 16 MiB, 64 for each word of the longest image.
 const TABLE_WORDS_AT_MOST: usize = 64 * LIMIT;
-/// How many times larger the next budget is, if one was used up.
-const GROWTH: u32 = 8;
+/// How many times more is lent the next time, if what was lent was used up.
+pub(crate) const GROWTH: u32 = 8;
 
-/// Runs images, and keeps the words that it lends from one to the next.
+/// What a run is lent: steps, and the work words for them; table words.
+#[derive(Clone, Copy, Debug)]
+pub(crate) struct Lent {
+    pub(crate) budget: u32,
+    pub(crate) table_words: usize,
+}
+
+impl Lent {
+    /// More of what was the reason to refuse, if more may be lent.
+    pub(crate) fn more(self, answer: Answer, most: Lent) -> Option<Lent> {
+        let wanted = answer.table_words as usize;
+        match answer.number {
+            Refusal::OUT_OF_STEPS if self.budget < most.budget => {
+                Some(Lent { budget: most.budget.min(GROWTH * self.budget), ..self })
+            }
+            Refusal::TABLE_WORDS if wanted <= most.table_words => Some(Lent { table_words: wanted, ..self }),
+            _ => None,
+        }
+    }
+}
+
+/// The first so many of the words, or of new ones if there are fewer.
+pub(crate) fn lend(words: &mut Vec<u32>, count: usize) -> &mut [u32] {
+    if words.len() < count {
+        *words = vec![0; count];
+    }
+    &mut words[..count]
+}
+
+/// Runs images, one by one or in lists, and keeps the words that it lends from one to the next.
 ///
 /// The first budget is small and grows as far as the caller allows, for the library clears the work words of every
 /// step that is lent; what a run answers doesn't depend on it. So a large limit costs small images nothing.
@@ -28,14 +58,20 @@ const GROWTH: u32 = 8;
 /// ```
 #[derive(Debug)]
 pub struct Runner {
-    table_words_at_most: usize,
-    work: Vec<u32>,
+    pub(crate) table_words_at_most: usize,
+    pub(crate) work: Vec<u32>,
     tables: Tables,
+    pub(crate) lists: Lists,
 }
 
 impl Default for Runner {
     fn default() -> Runner {
-        Runner { table_words_at_most: TABLE_WORDS_AT_MOST, work: vec![], tables: Tables::default() }
+        Runner {
+            table_words_at_most: TABLE_WORDS_AT_MOST,
+            work: vec![],
+            tables: Tables::default(),
+            lists: Lists::default(),
+        }
     }
 }
 
@@ -44,8 +80,9 @@ impl Runner {
         Runner::default()
     }
 
-    /// Lends no more table words than these. An image whose tables are longer is refused with 14, and the refusal says
-    /// how long they are; 268,697,600 words, 1 GB, is the most that any image can want. Without this, 4,194,304.
+    /// Lends no more table words than these, to an image or to a list. An image whose tables are longer is refused with
+    /// 14, and the refusal says how long they are; 268,697,600 words, 1 GB, is the most that any image can want. Without
+    /// this, 4,194,304.
     pub fn table_words_at_most(mut self, words: usize) -> Runner {
         self.table_words_at_most = words;
         self
@@ -57,17 +94,8 @@ impl Runner {
     /// The answer is that of one call of the library with this budget, words enough and stack enough: what may take
     /// over 1 MiB runs on a stack of its own. Panics if the system gives no thread for it.
     pub fn infer_types(&mut self, image: &[u32], names: &[u8], budget: u32) -> Result<&Tables, Refusal> {
-        let answer = if image.len() > LIMIT || budget as usize > LIMIT {
-            // refused by its size alone, without words
-            infer_types_into(image, names, budget, &mut [], &mut [])
-        } else {
-            self.run(image, names, budget)
-        };
-        if answer.number != Answer::DONE {
-            return Err(Refusal::new(answer));
-        }
-        self.tables.read(answer, image);
-        Ok(&self.tables)
+        let screen = Screen { image, names, budget };
+        self.run(&screen, screen.first_lent(), Lent { budget, table_words: self.table_words_at_most })
     }
 
     /// The tables of the last run, which has succeeded.
@@ -76,29 +104,27 @@ impl Runner {
     }
 
     /// Calls with ever more steps and table words, until these aren't the reason to refuse or no more may be lent.
-    fn run(&mut self, image: &[u32], names: &[u8], most: u32) -> Answer {
-        // screens take up to 0.7 steps a word, and their tables up to 0.6 words
-        let mut budget = most.min(image.len() as u32 * 3 / 4);
-        let mut table_words = self.table_words_at_most.min(image.len());
-        loop {
-            let answer = self.call(image, names, budget, table_words);
-            match answer.number {
-                Refusal::OUT_OF_STEPS if budget < most => budget = most.min(GROWTH * budget),
-                Refusal::TABLE_WORDS if answer.table_words as usize <= self.table_words_at_most => {
-                    table_words = answer.table_words as usize
-                }
-                _ => return answer,
+    pub(crate) fn run(&mut self, screen: &Screen, first: Lent, most: Lent) -> Result<&Tables, Refusal> {
+        let mut lent = Lent { table_words: first.table_words.min(most.table_words), ..first };
+        let answer = loop {
+            let answer = self.call(screen, lent);
+            match lent.more(answer, most) {
+                Some(more) => lent = more,
+                None => break answer,
             }
+        };
+        if answer.number != Answer::DONE {
+            return Err(Refusal::new(answer));
         }
+        self.tables.read(answer, screen.image);
+        Ok(&self.tables)
     }
 
-    fn call(&mut self, image: &[u32], names: &[u8], budget: u32, table_words: usize) -> Answer {
-        let work_words = work_words(image.len(), budget);
-        if self.work.len() < work_words {
-            self.work = vec![0; work_words];
-        }
-        let (work, tables) = (&mut self.work[..work_words], &mut self.tables.words);
-        tables.resize(table_words, 0);
-        with_stack(stack_bytes(image, budget), || infer_types_into(image, names, budget, work, tables))
+    fn call(&mut self, screen: &Screen, lent: Lent) -> Answer {
+        let (work_words, stack_bytes) = screen.needs(lent.budget);
+        let (work, tables) = (lend(&mut self.work, work_words), &mut self.tables.words);
+        tables.resize(lent.table_words, 0);
+        let &Screen { image, names, .. } = screen;
+        with_stack(stack_bytes, || infer_types_into(image, names, lent.budget, work, tables))
     }
 }

@@ -26,6 +26,13 @@ pub struct Tables {
 }
 
 impl Tables {
+    /// The tables in these words.
+    pub(crate) fn new(answer: Answer, words: Vec<u32>, image: &[u32]) -> Tables {
+        let mut tables = Tables { words, ..Tables::default() };
+        tables.read(answer, image);
+        tables
+    }
+
     /// Reads what stands in the words: the tables that this answer says, of an image that passed the check.
     pub(crate) fn read(&mut self, answer: Answer, image: &[u32]) {
         self.steps = answer.steps;
@@ -33,11 +40,13 @@ impl Tables {
         self.words.truncate(answer.table_words as usize);
         let mut at = 0;
         self.slot_ends.clear();
+        self.slot_ends.reserve(answer.slots as usize);
         for _ in 0..answer.slots {
             at += type_words(&self.words[at..]);
             self.slot_ends.push(at);
         }
         self.bindings.clear();
+        self.bindings.reserve(answer.bindings as usize);
         for _ in 0..answer.bindings {
             let slot = Slot::from_number(self.words[at]);
             let end = at + 1 + type_words(&self.words[at + 1..]);

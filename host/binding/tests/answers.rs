@@ -1,20 +1,9 @@
 //! The library through this crate: rows of document 01, refusals, edges.
 
-use infer_types::*;
+mod images;
 
-/// Row A: Primitive into the first of two identifiers; perhaps with a Return of it.
-fn row_a(returned: bool) -> Image {
-    let mut image = Builder::new();
-    let (x, out) = (image.identifier(), image.identifier());
-    let screen = image.function();
-    let mut block = Block::new();
-    block.primitive(x);
-    if returned {
-        block.returns(x);
-    }
-    image.body(screen, Body::other(out).block(block));
-    image.finish().expect("a body")
-}
+use images::{cycle, empty_phi, row_a};
+use infer_types::*;
 
 fn run(image: &Image, budget: u32) -> Result<Tables, Refusal> {
     infer_types(&image.words, &image.names, budget)
@@ -32,24 +21,14 @@ fn row_a_and_b() {
 
 #[test]
 fn row_d_is_a_cycle() {
-    let mut image = Builder::new();
-    let (x, out) = (image.identifier(), image.identifier());
-    let screen = image.function();
-    image.body(screen, Body::other(out).block(Block::new().call(x, x, &[]).take()));
-    let refusal = run(&image.finish().expect("a body"), 1_024).expect_err("a cycle");
+    let refusal = run(&cycle(), 1_024).expect_err("a cycle");
     assert_eq!((refusal.number, refusal.fault()), (Refusal::CYCLE, Fault::ScreenAuthor));
 }
 
 #[test]
 fn row_e_is_a_phi_without_operands() {
-    let mut image = Builder::new();
-    let (x, out) = (image.identifier(), image.identifier());
-    let screen = image.function();
-    image.body(screen, Body::other(out).block(Block::new().phi(x, &[]).take()));
-    assert_eq!(
-        run(&image.finish().expect("a body"), 1_024).expect_err("an empty phi").number,
-        Refusal::EMPTY_PHI
-    );
+    let refusal = run(&empty_phi(), 1_024).expect_err("an empty phi");
+    assert_eq!((refusal.number, refusal.fault()), (Refusal::EMPTY_PHI, Fault::ScreenAuthor));
 }
 
 #[test]
@@ -84,8 +63,9 @@ fn edges_of_budget_work_and_tables() {
 #[test]
 fn every_refusal_has_its_own_help() {
     let help = |number| Refusal { number, steps: 0, table_words: 0 }.help();
-    let mut all: Vec<&str> = (1..=15).map(help).collect();
+    // one of them is that of a number that nobody knows
+    let mut all: Vec<&str> = (1..=17).chain([Refusal::NOT_RUN]).map(help).collect();
     all.sort();
     all.dedup();
-    assert_eq!(all.len(), 15);
+    assert_eq!(all.len(), 18);
 }

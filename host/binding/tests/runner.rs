@@ -1,25 +1,9 @@
 //! A Runner answers what one call with enough of everything answers, whatever it ran before.
 
-use infer_types::*;
+mod images;
 
-/// A small image whose run takes many steps: a phi of two equal phis, so many times, visited in so many loads.
-fn costly(levels: u32, loads: u32) -> Image {
-    let mut image = Builder::new();
-    let (x, out) = (image.identifier(), image.identifier());
-    let screen = image.function();
-    let mut of = image.primitive();
-    for _ in 0..levels {
-        of = image.phi_type(&[of, of]);
-    }
-    let mut block = Block::new();
-    block.load_global(x, Some(of));
-    for _ in 0..loads {
-        let loaded = image.identifier();
-        block.load_local(loaded, x);
-    }
-    image.body(screen, Body::other(out).block(block));
-    image.finish().expect("a body")
-}
+use images::{costly, long_tables};
+use infer_types::*;
 
 /// One call of the library with a million table words.
 fn one_call(image: &Image, budget: u32) -> (Answer, Vec<u32>) {
@@ -99,22 +83,6 @@ fn no_more_table_words_are_lent_than_allowed() {
             compare(&mut runner.table_words_at_most(table_words as usize), &image, 65_536);
         }
     }
-}
-
-/// So many slots with a type of 3,070 words beside the first, and the table words of all.
-fn long_tables(slots: u32) -> (Image, u32) {
-    let mut image = Builder::new();
-    let out = image.identifier();
-    let screen = image.function();
-    image.body(screen, Body::other(out));
-    let mut long = image.primitive();
-    for _ in 0..10 {
-        long = image.phi_type(&[long, long]);
-    }
-    for _ in 0..slots {
-        image.slot_with_type(long);
-    }
-    (image.finish().expect("a body"), 2 + slots * (3 * 1_024 - 2))
 }
 
 #[test]

@@ -2,6 +2,7 @@
 //! An overrun ends the test program. (`infer_tests` holds every stored input to its answer on such a thread.)
 
 use host::deep;
+use host::image::Input;
 use infer_types::*;
 use std::thread;
 
@@ -61,15 +62,34 @@ fn every_deep_image() {
     });
 }
 
-/// The bytes that a call is said to take are enough for it, with 16 KiB for the thread itself.
+/// Each between small ones: the stack is that of the screen that needs most.
+#[test]
+fn every_deep_image_in_one_list() {
+    on_a_default_stack(|| {
+        let (cases, (small, _)) = (deep::deep(), towers(1, 1));
+        let mut screens = vec![Screen::new(&small, 1_024)];
+        for Input { image, names, budget, .. } in cases.iter().map(|case| &case.input) {
+            screens.extend([Screen { image, names, budget: *budget }, screens[0]]);
+        }
+        let runs = screens.iter().map(|screen| infer_types(screen.image, screen.names, screen.budget));
+        let listed = infer_batch(&screens).into_iter().map(|one| one.map_err(|refused| refused.refusal));
+        assert!(listed.eq(runs));
+    });
+}
+
+/// The bytes that a call is said to take are enough for it and for a list of it, with 16 KiB for the thread itself.
 #[test]
 fn no_deep_image_takes_more_than_its_bound() {
     for case in deep::deep() {
         let (image, names) = (&case.input.image, &case.input.names);
         for budget in (10..=16).map(|bits| 1 << bits) {
             let (mut work, mut tables) = (vec![0; work_words(image.len(), budget)], vec![0; 1 << 20]);
+            let list = [0, image.len() as u32, 0, names.len() as u32, budget];
             on_stack(stack_bytes(image, budget) + (16 << 10), || {
-                infer_types_into(image, names, budget, &mut work, &mut tables);
+                let answer = infer_types_into(image, names, budget, &mut work, &mut tables);
+                let mut row = [0; ANSWER_ROW];
+                infer_batch_into(&list, image, names, &mut work, &mut tables, &mut row);
+                assert_eq!(Answer::of_row(&row), answer);
             });
         }
     }

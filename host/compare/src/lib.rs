@@ -16,3 +16,5 @@ pub mod linked;
 pub mod rows;
 pub mod screens;
 pub mod stored;
+#[cfg(feature = "library")]
+pub mod times;

@@ -4,27 +4,17 @@
 //!     check_tests --only FILE..          the corpus alone
 //!     check_tests --write FILE COUNT     writes the inputs, so many of them generated, with the answers expected
 
+use host::hostile::{processor_time, MOST_TIME};
 use host::image::{Case, Input};
 use host::lent::{Memory, Side};
 use host::random::Random;
-use host::report::{fail, row};
+use host::report::{fail, require, row};
 use host::{corpus, damage, edges, generate, hostile, plain, report};
 use infer_types::image_check;
 use std::slice;
 use std::time::Duration;
 
-extern "C" {
-    fn clock() -> i64;
-}
-
-/// A hostile image may take the processor so long.
-const MOST_TIME: Duration = Duration::from_secs(1);
 const GENERATED: u32 = 200_000;
-
-fn processor_time() -> Duration {
-    // SAFETY: gives a number of microseconds.
-    Duration::from_micros(unsafe { clock() } as u64)
-}
 
 struct Tests {
     words: Memory,
@@ -161,9 +151,8 @@ fn run_all(tests: &mut Tests, files: &[String]) {
     tests.part("generated");
     run_hostile(tests);
     println!("{:<28}{}", "all", row(&tests.total));
-    if let Some(number) = tests.total.iter().position(|&count| count == 0) {
-        println!("FAILED: no input with answer {number}");
-        std::process::exit(1);
+    for (number, &count) in tests.total.iter().enumerate() {
+        require(&format!("input with answer {number}"), count);
     }
     println!("check_tests: all passed");
 }

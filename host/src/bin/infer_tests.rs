@@ -3,16 +3,17 @@
 //!     infer_tests FOLDER          every test; FOLDER has the corpus and the stored answers
 //!     infer_tests --write FILE    writes the deep inputs, for another judge
 
-use host::answers::{is_done, is_unrun, sum, without_tables, Expected};
+use host::answers::{is_done, is_unrun, sum, without_tables, Expected, CORPUS, LOOKUPS};
 use host::image::{option_bits, Case, Input, OPTIONS};
 use host::lent::{Memory, Side, Words};
-use host::report::{fail, row};
+use host::report::{fail, require, row};
 use host::rules::Rules;
+use host::stack::{on_stack, DEFAULT_STACK, STACK, WHOLE_STACK};
 use host::{answers, corpus, deep, report};
-use infer_types::{infer_types, infer_types_into, Answer, Lookups, Refusal, Runner, Tables, LIMIT};
+use infer_types::{infer_types, infer_types_into, Answer, Refusal, Runner, Tables, LIMIT};
 use std::io::Write;
+use std::slice;
 use std::time::Instant;
-use std::{slice, thread};
 
 const MOST_WORK: usize = 8 * 2 * LIMIT + 1_000_000;
 const MOST_TABLES: usize = 1_000_000;
@@ -20,16 +21,6 @@ const MOST_TABLES: usize = 1_000_000;
 const HELD: [u32; 2] = [0xA5A5_A5A5, 0x5A5A_5A5A];
 /// Words lent beyond those that are asked for, in some of the runs.
 const MORE: usize = 1_000;
-/// The stack of a test that calls the library directly, a usual main thread's; and one that is enough for every image.
-const STACK: usize = 8 << 20;
-const WHOLE_STACK: usize = 10 << 20;
-/// The stack of a test that calls it through the binding's safe functions: what Rust gives a thread by default.
-const DEFAULT_STACK: usize = 2 << 20;
-
-/// The corpus files, which stand beside their answers.
-const CORPUS: [&str; 5] = ["rows", "small", "large", "edges", LOOKUPS];
-/// The one for the counts of lookups.
-const LOOKUPS: &str = "lookups";
 
 struct Tests {
     image: Memory,
@@ -74,7 +65,7 @@ impl Tests {
         check(answer == expected.answer, "another answer");
         let left = if is_unrun(&answer) { HELD[0] } else { 0 };
         check(work.iter().all(|&word| word == left), "work words left");
-        let written = if is_done(&answer) { answer.table_words as usize } else { 0 };
+        let written = expected.written();
         check(sum(&tables[..written]) == expected.sum, "other tables");
         check(tables[written..].iter().all(|&word| word == HELD[1]), "table words past the tables");
         check(before_work.iter().all(|&word| word == HELD[0]), "words before the work words");
@@ -92,8 +83,7 @@ impl Tests {
             self.run(case, work + MORE, words + MORE, expected);
         }
         if is_done(&expected.answer) {
-            let refused = Expected { answer: without_tables(expected.answer), sum: sum(&[]) };
-            self.run(case, work, words - 1, refused);
+            self.run(case, work, words - 1, Expected::refused(without_tables(expected.answer)));
         }
     }
 
@@ -107,25 +97,6 @@ impl Tests {
     }
 }
 
-fn read(path: &str) -> Vec<u8> {
-    std::fs::read(path).unwrap_or_else(|error| panic!("{path}: {error}"))
-}
-
-/// The cases with the answers that a file of the folder has for them.
-fn answered(cases: Vec<Case>, folder: &str, name: &str) -> Vec<(Case, Expected)> {
-    let expected = answers::read(&read(&format!("{folder}/{name}.answers")));
-    assert_eq!(cases.len(), expected.len(), "cases and answers of {name}");
-    cases.into_iter().zip(expected).collect()
-}
-
-fn corpus_answered(folder: &str, name: &str) -> Vec<(Case, Expected)> {
-    answered(corpus::read(name, &read(&format!("{folder}/{name}.corpus"))), folder, name)
-}
-
-fn deep_answered(folder: &str) -> Vec<(Case, Expected)> {
-    answered(deep::deep(), folder, "deep")
-}
-
 fn run_corpus(tests: &mut Tests, name: &str, cases: &[(Case, Expected)]) -> [u64; 15] {
     for (case, expected) in cases {
         tests.compare(case, *expected);
@@ -137,13 +108,6 @@ fn run_corpus(tests: &mut Tests, name: &str, cases: &[(Case, Expected)]) -> [u64
 fn require_numbers(counts: &[u64; 15]) {
     for (number, &count) in counts.iter().enumerate() {
         require(&format!("run with answer {number}"), count);
-    }
-}
-
-fn require(what: &str, count: u64) {
-    if count == 0 {
-        println!("FAILED: no {what}");
-        std::process::exit(1);
     }
 }
 
@@ -170,12 +134,8 @@ fn require_lookups(cases: &[(Case, Expected)]) {
     println!("  finished runs with {}", met.join(", "));
 }
 
-fn is_deepest(case: &Case) -> bool {
-    case.name == deep::DEEPEST
-}
-
 fn run_deep(tests: &mut Tests, folder: &str, wanted: fn(&Case) -> bool) {
-    for (case, expected) in deep_answered(folder).into_iter().filter(|one| wanted(&one.0)) {
+    for (case, expected) in answers::of_deep(folder).into_iter().filter(|one| wanted(&one.0)) {
         // Said before the run: a stack that is too small ends the program.
         print!("  {}:", case.name);
         _ = std::io::stdout().flush();
@@ -191,26 +151,27 @@ fn run_all(folder: &str) {
     let mut tests = Tests::new();
     println!("{:<10}{}", "answer", row(&std::array::from_fn::<u64, 15, _>(|number| number as u64)));
     for name in CORPUS {
-        let cases = corpus_answered(folder, name);
+        let cases = answers::of_corpus(folder, name);
         let counts = run_corpus(&mut tests, name, &cases);
         if name == LOOKUPS {
             require_numbers(&counts);
             require_lookups(&cases);
         }
     }
-    run_deep(&mut tests, folder, |case| !is_deepest(case));
+    run_deep(&mut tests, folder, |case| !deep::is_deepest(case));
     println!("{:<10}{}", "all", row(&tests.total));
     require_numbers(&tests.total);
 }
 
 fn run_deepest(folder: &str) {
-    run_deep(&mut Tests::new(), folder, is_deepest);
+    run_deep(&mut Tests::new(), folder, deep::is_deepest);
 }
 
 /// Every stored input through the plain function and through one Runner: the stored answer and tables, whatever ran
 /// before. Both lend work words enough, so that inputs that are stored with too few are left out.
 fn run_safe(folder: &str) {
-    let inputs = CORPUS.iter().flat_map(|name| corpus_answered(folder, name)).chain(deep_answered(folder));
+    let inputs =
+        CORPUS.iter().flat_map(|name| answers::of_corpus(folder, name)).chain(answers::of_deep(folder));
     let mut runner = Runner::new();
     let mut count = 0;
     for (case, expected) in inputs.filter(|one| one.1.answer.number != Refusal::WORK_WORDS) {
@@ -225,38 +186,9 @@ fn run_safe(folder: &str) {
 }
 
 fn compare_safe(case: &Case, result: Result<&Tables, Refusal>, expected: Expected) {
-    let found = match result {
-        Ok(tables) => Expected { answer: answer_of(tables), sum: sum(tables.words()) },
-        Err(Refusal { number, steps, table_words }) => {
-            Expected { answer: Answer { number, steps, table_words, ..Answer::default() }, sum: sum(&[]) }
-        }
-    };
+    let found = Expected::of(result);
     if found != expected {
         fail(&format!("{found:?} through the binding, not {expected:?}"), case);
-    }
-}
-
-fn answer_of(tables: &Tables) -> Answer {
-    let Lookups { exact_name, star_entry, hook_rule, nothing } = tables.lookups();
-    Answer {
-        number: Answer::DONE,
-        steps: tables.steps,
-        slots: tables.slot_count() as u32,
-        bindings: tables.binding_count() as u32,
-        table_words: tables.words().len() as u32,
-        exact: exact_name,
-        star: star_entry,
-        hook: hook_rule,
-        nothing,
-    }
-}
-
-/// A part of the tests on a stack of so many bytes.
-fn on_stack(bytes: usize, folder: &str, part: fn(&str)) {
-    let folder = folder.to_string();
-    let thread = thread::Builder::new().stack_size(bytes).spawn(move || part(&folder));
-    if thread.expect("a thread").join().is_err() {
-        std::process::exit(1);
     }
 }
 
