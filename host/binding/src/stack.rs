@@ -20,7 +20,7 @@ const FUNCTION: usize = 480;
 const STEP: usize = 224 / 2;
 /// The levels of that one type, at most: its 4,096 words, two a level, and a variable.
 const TYPE: usize = 2_049 * STEP;
-/// `infer_batch` 192, or `infer_types` 112; what both run a screen by 416, `instruction_types` 640, `property` 352,
+/// `infer_batch` 176, or `infer_types` 112; what both run a screen by 416, `instruction_types` 640, `property` 352,
 /// `bind_phi` 224, `bind_checked` 176, rounded up: with the type 57 pages.
 const RUN: usize = (57 << 12) - TYPE;
 
