@@ -26,6 +26,7 @@ unfoldable pub screens-from : (list : List ℕ) → (k n : ℕ) → List Screen
 screens-from list k zero = []
 screens-from list k (suc n) = screen-at list k ∷ screens-from list (k + 1) n
 
+-- those of a list: as many as it has whole rows
 abbrev pub screens-of : (list : List ℕ) → List Screen
 screens-of list = screens-from list 0 (length list / 5)
 
