@@ -4,13 +4,13 @@ use native.Mathlib.Omega.{arith}
 use native.Mathlib.Nat.{zero-add}
 use mathlib.Core.Path.{_≡_, refl, sym, ap, subst, _∙_}
 use mathlib.Core.Bool.{Bool, true, false}
-use mathlib.Core.List.{List, append-nil}
+use mathlib.Core.List.{List}
 use lib.ListN.{length, drop}
-use lib.Seq.{drop-length}
 use lib.Dec.{eqb, leb}
 use borrow.Author.Tests.{leb-true}
 use Rattle.image.proofs.Tests.{right}
 use Rattle.run_answer.specs.Lent.{put, cleared}
+use Rattle.run_answer.proofs.LentLaws.{cleared-all}
 use Rattle.batch.specs.Batch.{screen-at, screens-of, list-fits, screens-inside, not-run-rows, none-run, Results, run-screens, batch}
 use Rattle.batch.specs.Entry.{Screened, work-after-list, Batches}
 use Rattle.batch.specs.Steps.{Screens-asked, Runs-screens}
@@ -79,8 +79,8 @@ module _ (list images names w t a : List ℕ) where
 
         -- a check has passed, and all work words are cleared
         pub done-cleared : {w₂ : List ℕ} → passed ≡ true → w₂ ≡ cleared (length w₁) w₁ → Batches list images names w w₂ t t₁ a a₁ 0
-        unfolding work-after-list cleared
-        done-cleared p e = gone-through (e ∙ rw (drop-length, append-nil, p, runs .len) refl)
+        unfolding work-after-list
+        done-cleared p e = gone-through (e ∙ cleared-all w₁ ∙ rw (p, runs .len) refl)
 
         -- no check has passed
         pub done-untouched : passed ≡ false → Batches list images names w w₁ t t₁ a a₁ 0

@@ -8,7 +8,7 @@ use Rattle.image.specs.Ty.{NONE}
 use Rattle.unifier_definition.specs.Counts.{no-lookups}
 use Rattle.run_definition.specs.Infer.{Answer, refusal}
 use Rattle.run_answer.specs.Lent.{put}
-use Rattle.run_answer.proofs.Puts.{put-none}
+use Rattle.run_answer.proofs.LentLaws.{put-none}
 use Rattle.batch.specs.Batch.{answer-row, not-run-row, not-run-rows}
 use Rattle.batch.proofs.Puts.{put-more}
 

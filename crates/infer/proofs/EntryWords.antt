@@ -2,9 +2,9 @@
 use Prim.Native.Nat.{ℕ, zero, suc, _+_, _*_, _≤_, _<_}
 use native.Mathlib.Omega.{arith}
 use mathlib.Core.Path.{_≡_, refl, sym, ap, _∙_}
-use mathlib.Core.List.{List, _++_, append-nil}
+use mathlib.Core.List.{List, _++_}
 use lib.ListN.{length, take, drop, replicate, length-append, length-drop, length-replicate, getD-replicate, List·getD-append}
-use lib.Seq.{length-take-le, getD-take, drop-length, length-front}
+use lib.Seq.{length-take-le, getD-take, length-front}
 use Rattle.image.specs.declared.Table.the-variants.{Slots}
 use Rattle.image.specs.Image.{count}
 use Rattle.image.specs.Check.{check}
@@ -18,7 +18,7 @@ use Rattle.infer.specs.Entry.{Infers}
 use Rattle.infer.specs.Run.{Run-asked, Runs}
 use Rattle.run_answer.specs.declared.Answer.{Answer as Answered}
 use Rattle.run_definition.proofs.Demand.{run-number, tables-sound}
-use Rattle.run_answer.proofs.Puts.{put-none}
+use Rattle.run_answer.proofs.LentLaws.{put-none, cleared-all}
 
 -- as many words as before
 cleared-length : (n : ℕ) (w : List ℕ) → n ≤ length w → length (cleared n w) ≡ length w
@@ -29,11 +29,6 @@ cleared-length n w h = omega (arith, length-append (replicate n 0) (drop n w), l
 cleared-zero : (n : ℕ) (w : List ℕ) (k : ℕ) → k < n → at (cleared n w) k ≡ 0
 unfolding cleared
 cleared-zero n w k h = List·getD-append (replicate n 0) (drop n w) 0 k (omega (arith, length-replicate {A = ℕ} n 0)) ∙ getD-replicate n k 0 0 h
-
--- all words
-cleared-all : (w : List ℕ) → cleared (length w) w ≡ replicate (length w) 0
-unfolding cleared
-cleared-all w = rw (drop-length w, append-nil) refl
 
 -- the sizes of an image that passed the check
 pub record Sizes (img : List ℕ) (budget work : ℕ) : Type 0 where

@@ -26,7 +26,7 @@ use Rattle.run_definition.specs.Infer.{registry, infer-types, refusal, output-o
 use Rattle.run_layout.specs.Layout.{Prepared, Lays-out}
 use Rattle.run_walk.specs.Running.{none-logged, Ready, Ran, Generates}
 use Rattle.run_answer.specs.Lent.{put, answer-of}
-use Rattle.run_answer.proofs.Puts.{put-none}
+use Rattle.run_answer.proofs.LentLaws.{put-none}
 use Rattle.run_tables.specs.Standing.{Slots-stand, all-types, Resolved-run, Finish-asked, Finishes}
 use Rattle.run_apply.specs.Applying.{Applying, Applies, Resolved-to}
 use Rattle.infer.specs.Run.{first-walk, Run-asked, Runs}
