@@ -31,3 +31,8 @@ pub const TABLE_WORDS: u32 = 14;
 pub const LIST: u32 = 15;
 
 pub const RANGES: u32 = 16;
+
+// A listing's own, after the run.
+pub const SLOT: u32 = 17;
+
+pub const LISTING_WORDS: u32 = 18;

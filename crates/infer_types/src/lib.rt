@@ -3,6 +3,7 @@ ghost use mathlib.Core.Path.{_≡_};
 ghost use Rattle.image.specs.Check.{check as check-of};
 ghost use Rattle.infer.specs.Entry.{Infers};
 ghost use Rattle.batch.specs.Entry.{Batches};
+use listing::ListingAnswer;
 use run_answer::Answer;
 
 // The image check, and then the run.
@@ -40,4 +41,18 @@ pub extern "C" fn infer_batch(
     ensures { λ r. ⌜ Batches (now (list .entry)) (now (images .entry)) (now (names .entry)) (now (work .entry)) (now (work .exit)) (now (tables .entry)) (now (tables .exit)) (now (answers .entry)) (now (answers .exit)) r ⌝ }
 {
     batch::infer_batch(list, images, names, work, tables, answers)
+}
+
+// A run and the listing that explains a slot's type.
+#[no_mangle]
+pub extern "C" fn infer_listing(
+    image: &[u32],
+    names: &[u8],
+    budget: u32,
+    work: &mut [u32],
+    tables: &mut [u32],
+    slot: u32,
+    listing: &mut [u32],
+) -> ListingAnswer {
+    listing::infer_listing(image, names, budget, work, tables, slot, listing)
 }

@@ -16,6 +16,7 @@ pub mod TableReading
 pub mod VisitSound
 pub mod VisitComplete
 pub mod Demand
+pub mod Spent
 pub mod Depths
 pub mod PositionLaws
 pub mod PositionsReads

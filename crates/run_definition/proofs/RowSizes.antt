@@ -39,7 +39,8 @@ unfolding flatMap size-of-types
 types-length [] = refl
 types-length (t ∷ ts) = omega (arith, length-append (written t) (flatMap written ts), written-length t, types-length ts)
 
-rows-length : (bs : List Binding) → length (flatMap written-binding bs) ≡ size-of-log bs
+-- rows take as many words as their log
+pub rows-length : (bs : List Binding) → length (flatMap written-binding bs) ≡ size-of-log bs
 unfolding flatMap written-binding size-of-log
 rows-length [] = refl
 rows-length (b ∷ bs) = omega (arith, length-append (written-binding b) (flatMap written-binding bs), written-length (b .type), rows-length bs)

@@ -23,8 +23,9 @@ use Rattle.run_definition.specs.Generate.{generate-compute}
 use Rattle.run_definition.specs.Visits.{visits-compute}
 use Rattle.run_definition.specs.Tables.{tables-compute}
 use Rattle.run_definition.specs.Infer.{infer-compute}
+use Rattle.run_definition.specs.More.{more-compute}
 
 -- To unfold this one is to unfold the whole definition.
 unfoldable pub compute : Unit {0}
-unfolding names-compute digits-compute ty-compute image-compute kind-compute read-compute body-compute nesting-compute check-compute program-compute cases-compute equal-compute log-compute outcome-compute property-compute resolve-compute unify-compute counts-compute items-compute equations-compute generate-compute visits-compute tables-compute infer-compute
+unfolding names-compute digits-compute ty-compute image-compute kind-compute read-compute body-compute nesting-compute check-compute program-compute cases-compute equal-compute log-compute outcome-compute property-compute resolve-compute unify-compute counts-compute items-compute equations-compute generate-compute visits-compute tables-compute infer-compute more-compute
 compute = tt

@@ -4,6 +4,7 @@ pub mod Generate
 pub mod Visits
 pub mod Tables
 pub mod Infer
+pub mod More
 pub mod Rules
 pub mod Position
 pub mod Fitting

@@ -4,7 +4,6 @@ use mathlib.Core.Path.{_≡_, refl, sym, ap, _∙_}
 use mathlib.Core.List.{List, [], _∷_, _++_, flatMap, append-assoc}
 use native.Mathlib.Omega.{arith}
 use lib.ListN.{length, getD, length-append}
-use lib.Seq.{sets-eq}
 use borrow.Author.Tests.{le-leb, lt-leb}
 use Rattle.image.specs.Ty.{Ty, var, poly, written}
 use Rattle.image.specs.Program.{tabulate-from}
@@ -12,13 +11,13 @@ use Rattle.unifier_definition.specs.Log.{Log}
 use Rattle.unifier_nodes.specs.Work.{at, Rep, Good}
 use Rattle.unifier_nodes.proofs.Frames.{rep-same, rep-low, good-same}
 use Rattle.run_definition.specs.Tables.{made-types, binding-rows, written-binding, tables-of}
-use Rattle.run_answer.specs.Lent.{put, answer-of}
+use Rattle.run_answer.specs.Lent.{answer-of}
 use Rattle.run_answer.specs.declared.Answer.{Answer as Answered}
 use Rattle.run_tables.specs.Standing.{Resolved-run, all-types, Finishes}
 use Rattle.unifier_counts.specs.Given.{counts-of}
 use Rattle.unifier_counts.specs.declared.Counts.{Counts}
 use Rattle.run_definition.specs.Infer.{refusal, with-tables}
-use Rattle.run_tables.specs.Writing.{Sink, counting, Row, Asks-row, Emits-row, Asks-bindings, Emits-bindings, Sizes, Writes}
+use Rattle.run_tables.specs.Writing.{Sink, counting, Row, Asks-row, Emits-row, Asks-bindings, Emits-bindings, Sizes}
 use Rattle.run_layout.specs.declared.Layout.{Layout}
 use Rattle.run_tables.specs.declared.Size.{Size}
 use Rattle.run_definition.proofs.Lists.{tabulate-length}
@@ -41,8 +40,12 @@ module _ {w : List ℕ} {lay : Layout} {made : ℕ} {σ : Log} {types : List Ty}
   abbrev pub tables : List ℕ
   tables = tables-of (all-types lay made types) (binding-rows σ made)
 
+  -- all nodes lie in the words
+  nodes-inside : R .top ≤ length w
+  nodes-inside = omega (arith, R .inside, R .apart, R .placed)
+
   pub resolved-good : Good w (lay .lo) (length w) σ
-  resolved-good = good-same w (length w) (R .inside) (λ k l h. refl) (R .good)
+  resolved-good = good-same w (length w) nodes-inside (λ k l h. refl) (R .good)
 
   resolved-row : Row w (lay .lo) (length w) (lay .entries) types
   resolved-row =
@@ -50,7 +53,7 @@ module _ {w : List ℕ} {lay : Layout} {made : ℕ} {σ : Log} {types : List Ty}
         each = λ i l.
             let m = R .stand .many in
             let p = R .placed in
-            let r : Rep w (lay .lo) (length w) (at w (lay .entries + i)) (getD types i poly) = rep-same w (length w) (R .inside) (λ k q h. refl) (R .stand .each i (omega arith)) in
+            let r : Rep w (lay .lo) (length w) (at w (lay .entries + i)) (getD types i poly) = rep-same w (length w) nodes-inside (λ k q h. refl) (R .stand .each i (omega arith)) in
             record { inside = omega arith; below = rep-low (resolved-good .nodes) r; rep = r };
       }
 
@@ -101,28 +104,24 @@ module _ {w : List ℕ} {lay : Layout} {made : ℕ} {σ : Log} {types : List Ty}
       let f = R .first in
       omega (arith, length-append types (made-types (lay .slots) made), tabulate-length var (lay .slots) (made - lay .slots))
 
-module _ {w : List ℕ} {lay : Layout} {made : ℕ} {size : Size} (C : Sizes w lay made size) {t : List ℕ} (steps : ℕ) (counts : Counts) where
+module _ {w : List ℕ} {lay : Layout} {made : ℕ} {size : Size} (C : Sizes w lay made size) (steps : ℕ) (counts : Counts) (lent : ℕ) where
   -- the tables are longer than the lent words
-  pub too-long : length t < size .words → {r : Answered} → answer-of r ≡ refusal 14 steps (size .words) .answer → Finishes w lay made steps counts t t r
-  unfolding with-tables refusal put
+  pub too-long : lent < size .words → {r : Answered} → answer-of r ≡ refusal 14 steps (size .words) .answer → Finishes w lay made steps counts lent r
+  unfolding with-tables refusal
   too-long l a =
       record {
-        answers = λ σ types R. let e = C .words σ types R in rw (lt-leb (length (tables R)) (length t) (omega arith), with-tables) (a ∙ ap (λ n. refusal 14 steps n .answer) e);
-        writes = λ σ types R. let e = C .words σ types R in rw (lt-leb (length (tables R)) (length t) (omega arith), with-tables);
+        answers = λ σ types R. let e = C .words σ types R in rw (lt-leb (length (tables R)) lent (omega arith), with-tables) (a ∙ ap (λ n. refusal 14 steps n .answer) e);
       }
 
-  -- or they are written
-  pub all-written : {t′ : List ℕ} → size .words ≤ length t → Writes w lay made t t′
-      → Finishes w lay made steps counts t t′ (record { number = 0; steps = steps; slots = made; bindings = size .bindings; «table_words» = size .words; exact = counts .exact; star = counts .star; hook = counts .hook; nothing = counts .nothing })
-  unfolding answer-of with-tables counts-of put
-  all-written l W =
+  -- or they can be written
+  pub long-enough : size .words ≤ lent
+      → Finishes w lay made steps counts lent (record { number = 0; steps = steps; slots = made; bindings = size .bindings; «table_words» = size .words; exact = counts .exact; star = counts .star; hook = counts .hook; nothing = counts .nothing })
+  unfolding answer-of with-tables counts-of
+  long-enough l =
       record {
         answers = λ σ types R.
             let e = C .words σ types R in
             let b = C .bindings σ types R in
             let m = types-many R in
-            rw (le-leb (length (tables R)) (length t) (omega arith), with-tables) (cc);
-        writes = λ σ types R.
-            let e = C .words σ types R in
-            rw (le-leb (length (tables R)) (length t) (omega arith), with-tables) (W .is σ types R ∙ sets-eq (tables R) t 0 (omega arith));
+            rw (le-leb (length (tables R)) lent (omega arith), with-tables) (cc);
       }

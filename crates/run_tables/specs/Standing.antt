@@ -1,4 +1,4 @@
--- What the work words stand for once the equations are unified, and the contract of `finish`. Assumes nothing.
+-- What the work words stand for once the equations are unified, and the contract of `table_answer`. Assumes nothing.
 use Prim.Native.Nat.{ℕ, _+_, _≤_, _<_, _^_}
 use mathlib.Core.Path.{_≡_}
 use mathlib.Core.List.{List, _++_}
@@ -10,7 +10,7 @@ use Rattle.run_definition.specs.Tables.{made-types, binding-rows, tables-of}
 use Rattle.run_definition.specs.Infer.{with-tables}
 use Rattle.unifier_counts.specs.Given.{counts-of}
 use Rattle.unifier_counts.specs.declared.Counts.{Counts}
-use Rattle.run_answer.specs.Lent.{put, answer-of}
+use Rattle.run_answer.specs.Lent.{answer-of}
 use Rattle.run_layout.specs.declared.Layout.{Layout}
 use Rattle.run_answer.specs.declared.Answer.{Answer as Answered}
 
@@ -22,11 +22,12 @@ pub record Slots-stand (w : List ℕ) (lay : Layout) (top : ℕ) (types : List T
 -- what is left to say when all is resolved: a log, the types of the image's slots, and how many slots there are
 pub record Resolved-run (w : List ℕ) (lay : Layout) (made : ℕ) (σ : Log) (types : List Ty) : Type 0 where
   pub top : ℕ
-  pub inside : top ≤ length w
+  pub inside : top ≤ lay .stack
   pub good : Good w (lay .lo) top σ
   pub stand : Slots-stand w lay top types
   pub first : lay .slots ≤ made
   pub bound : made ≤ lay .lo
+  pub apart : lay .stack ≤ lay .entries
   pub placed : lay .entries + lay .slots ≤ length w
   pub small : length w < 2 ^ 32
 
@@ -34,16 +35,14 @@ pub record Resolved-run (w : List ℕ) (lay : Layout) (made : ℕ) (σ : Log) (t
 unfoldable pub all-types : Layout → ℕ → List Ty → List Ty
 all-types lay made types = types ++ made-types (lay .slots) made
 
--- what `finish` asks: words that stand for a finished run, whose tables' length fits a word
+-- what `table_answer` asks: words that stand for a finished run, whose tables' length fits a word
 pub record Finish-asked (w : List ℕ) (lay : Layout) (made : ℕ) : Type 0 where
   pub σ : Log
   pub types : List Ty
   pub resolved : Resolved-run w lay made σ types
   pub few : length (tables-of (all-types lay made types) (binding-rows σ made)) < 2 ^ 32
 
--- the contract of `finish`: the answer and the table words of the definition, 14 included
-pub record Finishes (w : List ℕ) (lay : Layout) (made steps : ℕ) (counts : Counts) (t t′ : List ℕ) (r : Answered) : Type 0 where
+-- the contract of `table_answer`: the definition's answer, 14 included
+pub record Finishes (w : List ℕ) (lay : Layout) (made steps : ℕ) (counts : Counts) (lent : ℕ) (r : Answered) : Type 0 where
   pub answers : (σ : Log) (types : List Ty) → Resolved-run w lay made σ types
-      → answer-of r ≡ with-tables (length t) steps (counts-of counts) (all-types lay made types) (binding-rows σ made) .answer
-  pub writes : (σ : Log) (types : List Ty) → Resolved-run w lay made σ types
-      → t′ ≡ put t 0 (with-tables (length t) steps (counts-of counts) (all-types lay made types) (binding-rows σ made) .tables)
+      → answer-of r ≡ with-tables lent steps (counts-of counts) (all-types lay made types) (binding-rows σ made) .answer

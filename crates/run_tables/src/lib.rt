@@ -23,7 +23,7 @@ struct Size {
 }
 
 // A type's words, added to those so far.
-fn type_size(w: &[u32], lo: u32, n: u32, words: u32) -> u32
+pub fn type_size(w: &[u32], lo: u32, n: u32, words: u32) -> u32
     requires { ⌜ Asks counting (now w) lo n words ⌝ }
     ensures { λ r. ⌜ Emits counting (now (w .entry)) lo n words r ⌝ }
 {
@@ -97,7 +97,7 @@ fn put_two(t: &mut [u32], at: usize, x: u32, y: u32) -> usize
     at + 2
 }
 
-fn write_type(w: &[u32], lo: u32, n: u32, t: &mut [u32], at: usize) -> usize
+pub fn write_type(w: &[u32], lo: u32, n: u32, t: &mut [u32], at: usize) -> usize
     requires { ⌜ Asks writing (now w) lo n (table (now t) at) ⌝ }
     ensures { λ r. ⌜ Emits writing (now (w .entry)) lo n (table (now (t .entry)) at) (table (now (t .exit)) r) ⌝ }
 {
@@ -172,7 +172,7 @@ fn write_bindings(w: &[u32], lo: u32, made: u32, t: &mut [u32], at: usize) -> us
     next
 }
 
-fn write(w: &[u32], lay: Layout, made: u32, t: &mut [u32])
+pub fn write(w: &[u32], lay: Layout, made: u32, t: &mut [u32])
     requires { ⌜ Write-asked (now w) lay made (now t) ⌝ }
     ensures { λ _. ⌜ Writes (now (w .entry)) lay made (now (t .entry)) (now (t .exit)) ⌝ }
 {
@@ -181,17 +181,17 @@ fn write(w: &[u32], lay: Layout, made: u32, t: &mut [u32])
     write_bindings(w, lay.lo, made, t, all);
 }
 
-// The answer and the tables, or a refusal with the length that these want.
-pub fn finish(
+// The answer of a finished run: done, or a refusal with the length that its tables want.
+pub fn table_answer(
     w: &[u32],
     lay: Layout,
     steps: u32,
     made: u32,
     counts: Counts,
-    t: &mut [u32],
+    lent: usize,
 ) -> Answer
     requires { ⌜ Finish-asked (now w) lay made ⌝ }
-    ensures { λ r. ⌜ Finishes (now (w .entry)) lay made steps counts (now (t .entry)) (now (t .exit)) r ⌝ }
+    ensures { λ r. ⌜ Finishes (now (w .entry)) lay made steps counts lent r ⌝ }
 {
     let size = total_size(w, lay, made);
     let table_words = size.words;
@@ -199,10 +199,9 @@ pub fn finish(
     let star = counts.star as u32;
     let hook = counts.hook as u32;
     let nothing = counts.nothing as u32;
-    if table_words as usize > t.len() {
+    if table_words as usize > lent {
         return refusal(refusals::TABLE_WORDS, steps, table_words);
     }
-    write(w, lay, made, t);
     let bindings = size.bindings;
     Answer {
         number: 0,

@@ -1,0 +1,1 @@
+// The definition of the listing and its laws, without code.

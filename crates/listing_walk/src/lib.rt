@@ -1,0 +1,81 @@
+// The variables of a listing, in order: depth first, each once. They stand where a finished run has done with the work words.
+use run_layout::Layout;
+use unifier_nodes::node::Node;
+use unifier_nodes::node::node_at;
+
+// Where the variables listed stand, one after another: in the second half of the names log.
+pub fn order_of(lay: Layout) -> u32 {
+    lay.log + (lay.lo - lay.slots)
+}
+
+// Where a listed variable's place among them stands: after the slots' types, or that of a made slot over the first half of the names log.
+fn mark_of(lay: Layout, x: u32) -> u32 {
+    if x < lay.slots {
+        return lay.entries + lay.slots + x;
+    }
+    lay.log + (x - lay.slots)
+}
+
+// Whether a variable is one of the n listed. What stands at the mark of one that is not may be any word.
+fn is_listed(w: &[u32], lay: Layout, n: u32, x: u32) -> bool {
+    let k = w[mark_of(lay, x) as usize];
+    if k >= n {
+        return false;
+    }
+    w[order_of(lay) as usize + k as usize] == x
+}
+
+// The variables of a type put at the end of those pending, the leftmost last: it is the next. Gives their new end.
+fn push_variables(w: &mut [u32], lo: u32, n: u32, end: u32) -> u32 {
+    match node_at(w, lo, n) {
+        Node::Var(x) => {
+            w[end as usize] = x.0;
+            end + 1
+        }
+        Node::Primitive => end,
+        Node::Poly => end,
+        Node::ObjectMethod => end,
+        Node::Object(_) => end,
+        Node::Function(_, _, ret) => push_variables(w, lo, ret, end),
+        Node::Phi(at, count) => push_operands(w, lo, n, at, count, end),
+    }
+}
+
+// The same of a list of nodes below last, from right to left.
+fn push_operands(w: &mut [u32], lo: u32, last: u32, at: u32, count: u32, from: u32) -> u32 {
+    let mut end = from;
+    let mut k = count;
+    while k > 0 {
+        k -= 1;
+        let n = w[at as usize + k as usize];
+        end = push_variables(w, lo, n, end);
+    }
+    end
+}
+
+// A variable listed as the next after n, and those in its binding pending.
+fn list_variable(w: &mut [u32], lay: Layout, n: u32, x: u32, end: u32) -> u32 {
+    w[mark_of(lay, x) as usize] = n;
+    w[order_of(lay) as usize + n as usize] = x;
+    let b = w[x as usize];
+    if b == 0 {
+        return end;
+    }
+    push_variables(w, lay.lo, b - 1, end)
+}
+
+// The variable of a slot and all that it leads to; gives how many they are.
+pub fn list_variables(w: &mut [u32], lay: Layout, slot: u32) -> u32 {
+    let pending = lay.stack;
+    let mut end = list_variable(w, lay, 0, slot, pending);
+    let mut n: u32 = 1;
+    while end > pending {
+        end -= 1;
+        let x = w[end as usize];
+        if !is_listed(w, lay, n, x) {
+            end = list_variable(w, lay, n, x, end);
+            n += 1;
+        }
+    }
+    n
+}
