@@ -1,16 +1,17 @@
 /*
  * Type inference for React screens: the functions of libinfer_types.a, which `rt staticlib infer_types` writes. docs/IMAGE.md says what
- * an image is, what the tables hold and what each number means; host/c/screen.c is a whole host, host/c/batch.c one with a list.
+ * an image is, what the tables hold and what each number means; host/c/screen.c is a whole host, host/c/batch.c one with a list,
+ * host/c/listing.c one that asks why a slot has its type.
  *
  * What a call is lent, and what it leaves:
  *
  * - Words stand at multiples of four bytes. A range of length 0 may be NULL.
- * - Work words, table words and answer words overlap nothing else that is lent. Images, names and list are only read, and may overlap
- *   each other.
- * - During a call nobody else changes what is lent, or reads work words, table words and answer words. Nothing is kept after it.
+ * - Work words, table words, answer words and listing words overlap nothing else that is lent. Images, names and list are only read,
+ *   and may overlap each other.
+ * - During a call nobody else changes what is lent, or reads work, table, answer and listing words. Nothing is kept after it.
  * - Table words change only if the answer is INFER_TYPES_DONE, and then only the first of them, as many as the answer's table_words.
  *   Work words are untouched after a refusal of 1 to 10 and all 0 after every other answer; what they hold before a call doesn't
- *   matter. What a list leaves is said at infer_batch.
+ *   matter. What a list leaves is said at infer_batch, what a listing leaves at infer_listing.
  * - There is no state between calls: calls on different threads need no lock if each has words of its own to be written to.
  * - Nothing is allocated and no function of the host is called but memset. What is needed beside the lent words is stack: see
  *   INFER_TYPES_STACK_BYTES.
@@ -40,7 +41,8 @@ extern "C" {
 /*
  * The most bytes of stack that a call of infer_types takes, of at most INFER_TYPES_LIMIT words and steps, and that a call of
  * image_check takes. The first is below ten MiB for the largest call, below one MiB for 8,192 words and 4,096 steps. A call of
- * infer_batch takes the most that one of its screens would. host/README.md says where the figures come from.
+ * infer_batch takes the most that one of its screens would, a call of infer_listing what one of infer_types does. host/README.md says
+ * where the figures come from.
  */
 #define INFER_TYPES_STACK_BYTES(words, budget)                                              \
     (INFER_TYPES_RUN_BYTES(words, budget) > INFER_TYPES_CHECK_BYTES                         \
@@ -215,7 +217,10 @@ enum {
     INFER_TYPES_REFUSED_TABLE_WORDS = 14,
     /* the caller's, of a whole list */
     INFER_TYPES_REFUSED_LIST = 15,
-    INFER_TYPES_REFUSED_RANGES = 16
+    INFER_TYPES_REFUSED_RANGES = 16,
+    /* the caller's, of a listing: the slot; listing_words says how many are wanted */
+    INFER_TYPES_REFUSED_SLOT = 17,
+    INFER_TYPES_REFUSED_LISTING_WORDS = 18
 };
 
 /* The number of a screen that was not run, for one before it in the list was refused with INFER_TYPES_REFUSED_TABLE_WORDS. */
@@ -235,6 +240,15 @@ struct infer_types_answer {
     uint32_t star;    /* those that found one by the "*" entry */
     uint32_t hook;    /* those that found one by the hook rule */
     uint32_t nothing; /* those that found none */
+};
+
+/*
+ * What a call for a listing answers: ten words. The listing words are those written, in INFER_TYPES_REFUSED_LISTING_WORDS those
+ * wanted, and 0 in every other refusal.
+ */
+struct infer_types_listing_answer {
+    struct infer_types_answer answer;
+    uint32_t listing_words;
 };
 
 /* A row of a list: where the image and its names start in what is lent for all, their lengths, and the budget. */
@@ -276,6 +290,26 @@ uint32_t image_check(const uint32_t *image, size_t image_words,
 uint32_t infer_batch(const uint32_t *list, size_t list_words, const uint32_t *images, size_t image_words,
                      const uint8_t *names, size_t name_bytes, uint32_t *work, size_t work_words,
                      uint32_t *tables, size_t table_words, uint32_t *answers, size_t answer_words);
+
+/*
+ * The same as infer_types, and why a slot has its type: the variable of the slot and those that it leads to, a row for each. A row is the
+ * slot and then what its variable is bound to, a type as in the tables, or INFER_TYPES_NONE if it is not bound. After a row come those of
+ * the variables in its binding, from left to right, each followed by all that it leads to; a variable that has its row gets no other.
+ * No listing has more than twice the words of its tables.
+ *
+ * - INFER_TYPES_DONE: the tables and the listing are written, each from the first word on; the words after them are untouched.
+ * - A refusal that infer_types would give comes before those of the listing.
+ * - INFER_TYPES_REFUSED_SLOT: else, a slot that isn't below the run's count of slots. Those that the run made may be asked for.
+ * - INFER_TYPES_REFUSED_LISTING_WORDS: else, a listing longer than the listing words. Lend as many as are wanted and call again.
+ *
+ * In the last two the answer has the steps of the run, and is 0 else. A refusal leaves table words and listing words untouched; work
+ * words are as after infer_types, all 0 after these two.
+ */
+struct infer_types_listing_answer infer_listing(const uint32_t *image, size_t image_words,
+                                                const uint8_t *names, size_t name_bytes, uint32_t budget,
+                                                uint32_t *work, size_t work_words,
+                                                uint32_t *tables, size_t table_words,
+                                                uint32_t slot, uint32_t *listing, size_t listing_words);
 
 #ifdef __cplusplus
 }

@@ -135,6 +135,18 @@ void print_tables(const uint32_t *tables, size_t at, const struct infer_types_an
         at = print_row(tables, at, at + 1, "bind", tables[at]);
 }
 
+void print_listing(const uint32_t *listing, size_t words) {
+    for (size_t at = 0; at < words;) {
+        if (listing[at + 1] != INFER_TYPES_NONE) {
+            at = print_row(listing, at, at + 1, "list", listing[at]);
+        } else {
+            print_words(listing, at, 2);
+            printf("list %lu none\n", (unsigned long)listing[at]);
+            at += 2;
+        }
+    }
+}
+
 uint32_t *words_of(size_t count) {
     return longer(NULL, count);
 }

@@ -44,6 +44,9 @@ void print_answer(const struct infer_types_answer *answer);
 /* Prints the tables that start there. */
 void print_tables(const uint32_t *tables, size_t at, const struct infer_types_answer *answer);
 
+/* Prints the rows of a listing of so many words. */
+void print_listing(const uint32_t *listing, size_t words);
+
 /* So many words to lend, and so many whose first are these. */
 uint32_t *words_of(size_t count);
 uint32_t *longer(uint32_t *words, size_t count);

@@ -1,8 +1,11 @@
-"""Inputs with the answers of the reference model. src/corpus.rs, src/answers.rs and src/lists.rs describe the formats.
+"""Inputs with the answers of the reference model. src/corpus.rs, src/answers.rs, src/lists.rs and src/listings.rs describe
+the formats.
 
     python3 host/data/corpus.py REFERENCE make              writes the corpus beside this file
     python3 host/data/corpus.py REFERENCE lists             writes the lists of screens beside this file
-    python3 host/data/corpus.py REFERENCE compare FILE..    holds the answers of files, FILE.lists too, to the model's
+    python3 host/data/corpus.py REFERENCE listings          writes the calls for listings beside this file
+    python3 host/data/corpus.py REFERENCE compare FILE..    holds the answers of files, FILE.lists and FILE.calls too, to
+                                                            the model's
     python3 host/data/corpus.py REFERENCE answers FILE..    writes the whole run's answers beside each file
 
 REFERENCE is the folder of the reference model (model.py, generate.py, rows.py, requests/).
@@ -18,10 +21,12 @@ from collections import Counter
 NONE = 0xFFFFFFFF
 LIMIT = 65_536
 MOST_TABLES = 16_777_216
-LANDED = 2                      # of document 02 the answers have 2.1 and 2.2, and no later request
+LANDED = 3                      # of document 02 the answers have 2.1 to 2.3, and no later request
 LONGEST_LOOKUPS = 2_000         # words, and name bytes; longer inputs are those that `lengths` makes
 LIST_ROW, ANSWER_ROW, MOST_ROWS = 5, 9, 256
 LENT = "work_len", "table_len", "answer_len"
+LONGEST_LISTED = 900            # words of an image that a listing is asked of, but for zeros at its end
+MOST_STEPS = 20_000             # and of its steps
 HERE = os.path.dirname(os.path.abspath(__file__))
 
 
@@ -103,6 +108,20 @@ class Reader:
         count = self.number()
         self.at += count
         return bytes(self.data[self.at - count:self.at])
+
+    def padded_words(self):
+        count = self.number()
+        return resized(self.words(), count, [0])
+
+    def padded_bytes(self):
+        count = self.number()
+        return resized(self.bytes(), count, b"\0")
+
+    def expect(self, right, what):
+        """The next bytes have to be these."""
+        if not self.data.startswith(right, self.at):
+            sys.exit(what)
+        self.at += len(right)
 
 
 def read(data):
@@ -238,8 +257,8 @@ def make(model, generate):
 
 def compare(model, files):
     for path in files:
-        if path.endswith(".lists"):
-            compare_lists(path)
+        if path.endswith((".lists", ".calls")):
+            compare_records(path, compare_list if path.endswith(".lists") else compare_calls)
             continue
         answers = Counter()
         with open(path, "rb") as file:
@@ -271,12 +290,12 @@ def run(words, names, budget, work):
 def stored(answer, tables):
     """An answer as src/answers.rs reads it."""
     out = number(answer.number)
-    if answer.number in (0, 11, 12, 13, 14):
+    if answer.number in (0, 11, 12, 13, 14, 17, 18):
         out += number(answer.steps)
     if answer.number == 14:
         out += number(answer.table_words)
     if answer.number == 0:
-        out += b"".join(map(number, answer[2:])) + struct.pack("<Q", sum_of(tables))
+        out += b"".join(map(number, answer[2:9])) + struct.pack("<Q", sum_of(tables))
     return out
 
 
@@ -315,19 +334,23 @@ def without_zeros(items):
     return items[:count]
 
 
+def padded_words(words):
+    return number(len(words)) + words_of(without_zeros(words))
+
+
+def padded_bytes(names):
+    kept = without_zeros(names)
+    return number(len(names)) + number(len(kept)) + kept
+
+
 def list_record(case):
     """What a list lends, as src/lists.rs reads it."""
-    images, names = case["image_words"], case["name_bytes"]
-    kept = without_zeros(names)
-    out = words_of(case["list_words"]) + number(len(images)) + words_of(without_zeros(images))
-    out += number(len(names)) + number(len(kept)) + kept
+    out = words_of(case["list_words"]) + padded_words(case["image_words"]) + padded_bytes(case["name_bytes"])
     return out + b"".join(number(case[lent]) for lent in LENT)
 
 
 def read_list(reader):
-    listed, image_count = reader.words(), reader.number()
-    images, name_count = resized(reader.words(), image_count, [0]), reader.number()
-    names = resized(reader.bytes(), name_count, b"\0")
+    listed, images, names = reader.words(), reader.padded_words(), reader.padded_bytes()
     return {"list_words": listed, "image_words": images, "name_bytes": names,
             **dict(zip(LENT, reader.numbers(len(LENT))))}
 
@@ -386,22 +409,202 @@ def lists(tries, each, lengthened):
     print("batch", len(out), "bytes", sorted(calls.items()), "rows", sorted(answered.items()))
 
 
-def compare_lists(path):
-    calls = Counter()
+def compare_records(path, compare_one):
+    """Each record of a file; `compare_one` gives the numbers of its calls."""
+    numbers, records = Counter(), 0
     with open(path, "rb") as file:
         reader = Reader(file.read())
     while not reader.is_at_end():
-        call, rows = called(read_list(reader))
-        right = list_answers(call, rows)
-        if not reader.data.startswith(right, reader.at):
-            sys.exit("%s, record %d: the model answers %d %s" % (path, sum(calls.values()), call, rows))
-        reader.at += len(right)
-        calls[call] += 1
-    print(path, sum(calls.values()), "agree", sorted(calls.items()))
+        numbers.update(compare_one(reader, "%s, record %d" % (path, records)))
+        records += 1
+    print(path, sum(numbers.values()), "agree", sorted(numbers.items()))
+
+
+def compare_list(reader, name):
+    call, rows = called(read_list(reader))
+    reader.expect(list_answers(call, rows), "%s: the model answers %d %s" % (name, call, rows))
+    return [call]
+
+
+def listed(run, slot, table_len, listing_len):
+    """The model's answer to a call for a listing, and what it writes."""
+    import requests
+    return requests.listing(**run, slot=slot, table_len=table_len, listing_len=listing_len,
+                            rules=requests.as_of(LANDED))
+
+
+def listing_answer(answer, written):
+    """An answer as src/listings.rs reads it."""
+    out = stored(answer, written["tables"])
+    if answer.number in (0, 18):
+        out += number(answer.listing_words)
+    if answer.number == 0:
+        out += struct.pack("<Q", sum_of(written["listing"]))
+    return out
+
+
+def compare_calls(reader, name):
+    run = {"words": reader.padded_words(), "name_bytes": reader.padded_bytes(),
+           **dict(zip(("budget", "work_len"), reader.numbers(2)))}
+    numbers = []
+    for _ in range(reader.number()):
+        answer, written = listed(run, reader.word(), *reader.numbers(2))
+        reader.expect(listing_answer(answer, written), "%s: the model answers %s" % (name, answer))
+        numbers.append(answer.number)
+    return numbers
+
+
+def calls_record(run, calls):
+    """A run and the calls for its listings, with the model's answers, as src/listings.rs reads them; and the numbers."""
+    out = padded_words(run["words"]) + padded_bytes(run["name_bytes"])
+    out += number(run["budget"]) + number(run["work_len"]) + number(len(calls))
+    numbers = []
+    for slot, table_len, listing_len in calls:
+        answer, written = listed(run, slot, table_len, listing_len)
+        out += word(slot) + number(table_len) + number(listing_len) + listing_answer(answer, written)
+        numbers.append(answer.number)
+    return out, numbers
+
+
+def is_in_function(row):
+    """A row has a Function in a Function."""
+    return any(row[at] in (5, 6) and row[at + 2] in (5, 6) for at in range(1, len(row) - 3))
+
+
+def sort_of_listing(slot, image_slots, bindings):
+    """How many rows a listing has, by powers of two, and what is in them."""
+    from requests.base import variables
+    from requests.listing import listing_rows
+    rows = listing_rows(slot, bindings)
+    inside = [variables(bindings[row[0]]) if row[0] in bindings else [] for row in rows]
+    return (len(rows).bit_length(), slot >= image_slots, slot in bindings,
+            any(row[1] == 0 for row in rows),                               # a chain
+            sum(map(len, inside)) > len({one for row in inside for one in row}),
+            any(row[1] == 7 and len(row) > 2 and len(set(one)) < len(one) for row, one in zip(rows, inside)),
+            any(map(is_in_function, rows)))
+
+
+def finished(run):
+    """(slots, bindings, table words) if the run ends with 0, lent enough."""
+    from requests import as_of
+    from requests.base import run_to_tables
+    done = run_to_tables(**run, table_len=MOST_TABLES, rules=as_of(LANDED))
+    return None if done.answer.number else (done.answer.slots, done.solved.bindings, done.answer.table_words)
+
+
+def calls_of(rng, run, slots):
+    """Just enough words; of the listing's one too few, none, and more; of the tables' one too few and more; and slots
+    that aren't there."""
+    count, _, tables = finished(run)
+    calls = []
+    for slot in slots:
+        words = listed(run, slot, tables, MOST_TABLES)[0].listing_words
+        calls += [(slot, tables, words), (slot, tables, words - 1), (slot, tables - 1, words),
+                  (slot, tables + rng.randint(1, 100), words + rng.randint(1, 100)),
+                  (slot, tables - 1, words - 1), (slot, tables, rng.randrange(words))]
+    outside = rng.choice((count, count, count + 1, NONE - 1, NONE))
+    return calls + [(outside, tables, rng.choice((0, 2, 100))), (outside, tables - 1, rng.choice((0, 100)))]
+
+
+def web(rng):
+    """A run whose variables are bound to types with others inside, many of them more than once."""
+    from image import Builder, block, body, instruction, place
+    b = Builder(options=rng.randrange(4))
+    leaves = [b.primitive(), b.object(), b.method()]
+    count = rng.choice((3, 6, 12, 20, 30))
+    places = [b.identifier(slot=b.slot(leaves[0]) if rng.random() < 0.5 else None) for _ in range(count)]
+    rng.shuffle(places)                          # each is bound to a type of later ones
+
+    def inside(at, depth):
+        chance = rng.random()
+        if at + 1 == count or chance < 0.1:
+            return rng.choice(leaves)
+        if depth == 0 or chance < 0.4:
+            return b.var(b.identifiers[rng.choice(places[at + 1:at + 7])][0])
+        if chance < 0.65:
+            return b.function_type(inside(at, depth - 1), rng.choice((NONE, 3)), rng.random() < 0.3)
+        return b.phi([inside(at, depth - 1) for _ in range(rng.randint(1, 4))])
+
+    made, phis = [], []
+    for at in range(count - 1):
+        chance, later = rng.random(), places[at + 1:at + 7]
+        if chance < 0.15:
+            phis.append((places[at], [rng.choice(later) for _ in range(rng.randint(1, 5))]))
+        elif chance < 0.3:
+            made.append(instruction(rng.choice(("CallExpression", "NewExpression")), rng.choice(later),
+                                    [place(places[at])]))
+        elif chance < 0.45:
+            made.append(instruction("LoadLocal", places[at], [place(rng.choice(later))]))
+        elif chance < 0.95:
+            made.append(instruction("LoadGlobal", places[at], aux=inside(at, rng.randint(1, 3))))
+    rng.choice((made.reverse, lambda: rng.shuffle(made), lambda: None))()
+    b.function(body(places[0], [block(made, phis)]))
+    return b.write()
+
+
+def run_of(rng, generate, seed):
+    """A run, and the slot that was chosen for it or None: by document 02's generator, document 01's, or a web."""
+    from requests import as_of, cases
+    which = seed % 4
+    if which < 2:
+        case = cases.case("listing", seed, as_of(LANDED))
+        return {one: case[one] for one in ("words", "name_bytes", "budget", "work_len")}, case["slot"]
+    if which == 2:
+        words, names, budget = generate.valid(rng, rng.choice((250, 400, 600)))
+    else:
+        (words, names), budget = web(rng), 4_096
+    run = {"words": words, "name_bytes": names, "budget": budget, "work_len": enough(words, budget)}
+    return run, None
+
+
+def with_least_steps(run):
+    """The same run with no step over, and no work word."""
+    steps = listed(run, 0, MOST_TABLES, MOST_TABLES)[0].steps
+    return {**run, "budget": steps, "work_len": enough(run["words"], steps)}
+
+
+def slots_of(rng, count, bindings):
+    """Some slots: any, the last, and that of the longest listing among a few."""
+    from requests.listing import listing_rows
+    few = rng.sample(sorted(bindings), min(len(bindings), 30))
+    longest = max(few, key=lambda slot: len(listing_rows(slot, bindings)), default=0)
+    return [longest, rng.choice((longest, rng.randrange(count), count - 1))]
+
+
+def listings(generate, tries, each):
+    """Runs and calls for their listings: so many tries, so many kept of each sort of listing or refusal."""
+    out, kept, numbers, runs = bytearray(), Counter(), Counter(), 0
+    for seed in range(tries):
+        rng = random.Random("listings %d" % seed)
+        run, chosen = run_of(rng, generate, seed)
+        if len(without_zeros(run["words"])) > LONGEST_LISTED:
+            continue
+        done = finished(run)
+        if done is None:
+            answer = listed(run, chosen or 0, MOST_TABLES, MOST_TABLES)[0]
+            sort, calls = answer.number, [(chosen or 0, 0, 0), (chosen or 0, 100, 100)]
+            if answer.steps > MOST_STEPS:
+                continue
+        else:
+            if rng.random() < 0.5:
+                run = with_least_steps(run)
+            count, bindings, _ = done
+            slots = slots_of(rng, count, bindings) if chosen is None or chosen >= count else [chosen]
+            sort = sort_of_listing(slots[0], run["words"][7], bindings)
+            calls = calls_of(rng, run, dict.fromkeys(slots))
+        kept[sort] += 1
+        if kept[sort] <= each:
+            record, answered = calls_record(run, calls)
+            out += record
+            numbers.update(answered)
+            runs += 1
+    with open(os.path.join(HERE, "listing.calls"), "wb") as file:
+        file.write(out)
+    print("listing", len(out), "bytes", runs, "runs", sorted(numbers.items()))
 
 
 def main():
-    if len(sys.argv) < 3 or sys.argv[2] not in ("make", "lists", "compare", "answers"):
+    if len(sys.argv) < 3 or sys.argv[2] not in ("make", "lists", "listings", "compare", "answers"):
         sys.exit(__doc__)
     sys.path.insert(0, sys.argv[1])
     import generate
@@ -410,6 +613,8 @@ def main():
         make(model, generate)
     elif sys.argv[2] == "lists":
         lists(4_000, 2, 300)
+    elif sys.argv[2] == "listings":
+        listings(generate, 8_000, 9)
     elif sys.argv[2] == "compare":
         compare(model, sys.argv[3:])
     else:

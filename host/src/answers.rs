@@ -5,10 +5,12 @@
 //! eight bytes, lowest first. Numbers are written as in the corpus. Table words were never short.
 //!
 //! The rows of a list have such answers too; there a 14 has its table words, and a row that was not run its number alone.
+//! So have calls for a listing, where 17 and 18 have their steps.
 
 use crate::corpus::{self, Reader};
 use crate::deep;
 use crate::image::Case;
+use crate::listings::{LISTING_WORDS, SLOT};
 use infer_types::{Answer, Lookups, Refusal, Tables, ANSWER_ROW};
 
 /// The corpus files, which stand beside their answers.
@@ -101,7 +103,7 @@ pub fn words(answer: &Answer) -> [u32; ANSWER_ROW] {
 fn stored(number: u32) -> &'static [usize] {
     match number {
         Answer::DONE => &[1, 2, 3, 4, 5, 6, 7, 8],
-        Refusal::EMPTY_PHI..=Refusal::OUT_OF_STEPS => &[1],
+        Refusal::EMPTY_PHI..=Refusal::OUT_OF_STEPS | SLOT | LISTING_WORDS => &[1],
         Refusal::TABLE_WORDS => &[1, 4],
         _ => &[],
     }
@@ -114,9 +116,14 @@ pub fn next(reader: &mut Reader) -> Expected {
     stored(words[0]).iter().for_each(|&at| words[at] = reader.number() as u32);
     let mut expected = Expected::refused(Answer::of_row(&words));
     if is_done(&expected.answer) {
-        expected.sum = u64::from_le_bytes(std::array::from_fn(|_| reader.byte()));
+        expected.sum = next_sum(reader);
     }
     expected
+}
+
+/// The next sum of a file.
+pub fn next_sum(reader: &mut Reader) -> u64 {
+    u64::from_le_bytes(std::array::from_fn(|_| reader.byte()))
 }
 
 /// Adds an answer to a file.

@@ -55,6 +55,22 @@ impl Reader<'_> {
     pub fn bytes(&mut self) -> Vec<u8> {
         (0..self.number()).map(|_| self.byte()).collect()
     }
+
+    /// How many words there are, and those before the last zeros.
+    pub fn padded_words(&mut self) -> Vec<u32> {
+        let count = self.count();
+        let mut words = self.words();
+        words.resize(count, 0);
+        words
+    }
+
+    /// The same of bytes.
+    pub fn padded_bytes(&mut self) -> Vec<u8> {
+        let count = self.count();
+        let mut bytes = self.bytes();
+        bytes.resize(count, 0);
+        bytes
+    }
 }
 
 /// The cases of a file, named by it and their number.
@@ -105,13 +121,33 @@ pub fn push_words(out: &mut Vec<u8>, words: &[u32]) {
     words.iter().for_each(|&word| push_word(out, word));
 }
 
+pub fn push_bytes(out: &mut Vec<u8>, bytes: &[u8]) {
+    push(out, bytes.len() as u64);
+    out.extend(bytes);
+}
+
+/// The items before the last zeros.
+fn without_zeros<T: Copy + Into<u32>>(items: &[T]) -> &[T] {
+    let zeros = items.iter().rev().take_while(|&&item| item.into() == 0).count();
+    &items[..items.len() - zeros]
+}
+
+pub fn push_padded_words(out: &mut Vec<u8>, words: &[u32]) {
+    push(out, words.len() as u64);
+    push_words(out, without_zeros(words));
+}
+
+pub fn push_padded_bytes(out: &mut Vec<u8>, bytes: &[u8]) {
+    push(out, bytes.len() as u64);
+    push_bytes(out, without_zeros(bytes));
+}
+
 /// Adds a case as a record 0.
 pub fn write(out: &mut Vec<u8>, case: &Case) {
     let Input { image, names, budget, work } = &case.input;
     push(out, 0);
     push_words(out, image);
-    push(out, names.len() as u64);
-    out.extend(names);
+    push_bytes(out, names);
     for number in [*budget as u64, *work as u64, case.expected as u64] {
         push(out, number);
     }

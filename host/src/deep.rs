@@ -41,15 +41,15 @@ pub fn deep() -> Vec<Case> {
 }
 
 /// An image under construction: the variables are visited for one step each, since their slots' type is Primitive.
-struct Deep {
-    image: Image,
-    primitive: u32,
-    block: Block,
+pub(crate) struct Deep {
+    pub image: Image,
+    pub primitive: u32,
+    pub block: Block,
 }
 
 impl Deep {
     /// Variable 0 is what the function returns.
-    fn new() -> Deep {
+    pub fn new() -> Deep {
         let mut image = Image::new();
         let primitive = image.primitive();
         let mut deep = Deep { image, primitive, block: Block::default() };
@@ -58,13 +58,13 @@ impl Deep {
     }
 
     /// A variable: an identifier and its slot have the same number.
-    fn variable(&mut self) -> u32 {
+    pub fn variable(&mut self) -> u32 {
         let slot = self.image.slot(self.primitive);
         self.image.identifier(slot, NONE)
     }
 
     /// So many variables, each bound to the next, by so many phis and so many loads; gives the first and the last.
-    fn chain(&mut self, phis: u32, loads: u32) -> (u32, u32) {
+    pub fn chain(&mut self, phis: u32, loads: u32) -> (u32, u32) {
         let first = self.variable();
         let mut last = first;
         for number in 0..phis + loads {
@@ -79,7 +79,7 @@ impl Deep {
         (first, last)
     }
 
-    fn push(&mut self, kind: Kind, lvalue: u32, aux: u32, items: Vec<Item>) {
+    pub fn push(&mut self, kind: Kind, lvalue: u32, aux: u32, items: Vec<Item>) {
         self.block.instructions.push(Instruction::new(kind, lvalue, aux, items));
     }
 
@@ -90,7 +90,7 @@ impl Deep {
     }
 
     /// A global of this type into the variable.
-    fn load(&mut self, variable: u32, of_type: u32) {
+    pub fn load(&mut self, variable: u32, of_type: u32) {
         self.push(Kind::LoadGlobal, variable, of_type, vec![]);
     }
 
@@ -118,7 +118,7 @@ impl Deep {
         }
     }
 
-    fn finish(mut self) -> Image {
+    pub fn finish(mut self) -> Image {
         self.image.body(Body::new(0, vec![self.block]));
         self.image
     }

@@ -1,7 +1,7 @@
 //! Memory to lend: read-only or to be written to, between pages that can't be touched.
 
 use std::ffi::{c_char, c_void};
-use std::ptr;
+use std::{ptr, slice};
 
 const PAGE: usize = 4_096;
 const PROT_NONE: i32 = 0;
@@ -81,6 +81,12 @@ impl Memory {
             self.lent.add(at) as *const T
         }
     }
+
+    /// The same, borrowed.
+    pub fn lend_slice<T: Copy>(&mut self, data: &[T], side: Side, fill: u8) -> &[T] {
+        // SAFETY: so many stand there, and nothing changes them while the memory is borrowed.
+        unsafe { slice::from_raw_parts(self.lend(data, side, fill), data.len()) }
+    }
 }
 
 /// Words to lend and to be written to.
@@ -99,7 +105,7 @@ impl Words {
         let words = unsafe {
             let pages = PROT_READ | PROT_WRITE;
             let start = map(place(length), length, pages, MAP_PRIVATE | MAP_ANONYMOUS | MAP_FIXED, -1);
-            std::slice::from_raw_parts_mut(start as *mut u32, length / 4)
+            slice::from_raw_parts_mut(start as *mut u32, length / 4)
         };
         Words { words }
     }

@@ -6,7 +6,7 @@
 //! in the corpus.
 
 use crate::answers::{self, Expected};
-use crate::corpus::{push, push_words, Reader};
+use crate::corpus::{push, push_padded_bytes, push_padded_words, push_words, Reader};
 use crate::image::Input;
 use crate::report::{if_short, Tested};
 use infer_types::{work_words, ANSWER_ROW, LIMIT, LIST_ROW};
@@ -109,22 +109,12 @@ impl Tested for ListCase {
     }
 }
 
-/// The items before the last zeros.
-fn without_zeros<T: Copy + Into<u32>>(items: &[T]) -> &[T] {
-    let zeros = items.iter().rev().take_while(|&&item| item.into() == 0).count();
-    &items[..items.len() - zeros]
-}
-
 /// Adds a case as a record.
 pub fn write(out: &mut Vec<u8>, case: &ListCase) {
     let List { words, images, names, work, tables, answers } = &case.list;
     push_words(out, words);
-    push(out, images.len() as u64);
-    push_words(out, without_zeros(images));
-    let kept = without_zeros(names);
-    push(out, names.len() as u64);
-    push(out, kept.len() as u64);
-    out.extend(kept);
+    push_padded_words(out, images);
+    push_padded_bytes(out, names);
     for count in [work, tables, answers] {
         push(out, *count as u64);
     }
@@ -148,13 +138,7 @@ pub fn read(name: &str, file: &[u8]) -> Vec<ListCase> {
 }
 
 fn read_list(reader: &mut Reader) -> List {
-    let words = reader.words();
-    let image_words = reader.count();
-    let mut images = reader.words();
-    images.resize(image_words, 0);
-    let name_bytes = reader.count();
-    let mut names = reader.bytes();
-    names.resize(name_bytes, 0);
+    let (words, images, names) = (reader.words(), reader.padded_words(), reader.padded_bytes());
     let [work, tables, answers] = std::array::from_fn(|_| reader.count());
     List { words, images, names, work, tables, answers }
 }

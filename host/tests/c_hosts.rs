@@ -1,12 +1,12 @@
-//! What C hosts are told is what the writer writes: the constants of infer_types.h, and of docs/IMAGE.md the instructions and the image
-//! that it has word by word.
+//! What C hosts are told is what the writer writes: the constants of infer_types.h, and of docs/IMAGE.md the instructions, the numbers
+//! of a list and of a listing, and the image and the listing that it has word by word.
 
 use host::image::{
     option_bits, FnType, Instruction, Kind, Role, Table, Tag, HEADER_WORDS, HOOK, LENGTH, NONE, OPTIONS,
     VERSION,
 };
 use infer_image::shapes;
-use infer_types::{Answer, Refusal, ANSWER_ROW, LIMIT, LIST_ROW, MOST_IMAGES};
+use infer_types::{Answer, ListingAnswer, ListingRows, Refusal, ANSWER_ROW, LIMIT, LIST_ROW, MOST_IMAGES};
 use std::collections::HashMap;
 use std::fmt::Debug;
 use std::mem::{offset_of, size_of};
@@ -101,11 +101,14 @@ fn the_refusals_are_the_bindings() {
         ("TABLE_WORDS", Refusal::TABLE_WORDS),
         ("LIST", Refusal::LIST),
         ("RANGES", Refusal::RANGES),
+        ("SLOT", Refusal::SLOT),
+        ("LISTING_WORDS", Refusal::LISTING_WORDS),
     ];
     let constants = constants();
     for (number, (name, bindings)) in (1..).zip(names) {
         assert_eq!((bindings, constants.get(&format!("REFUSED_{name}"))), (number, Some(&number)), "{name}");
     }
+    assert_eq!(constants.keys().filter(|name| name.starts_with("REFUSED_")).count(), names.len());
     assert_eq!(constants.get("NOT_RUN"), Some(&Refusal::NOT_RUN));
     assert_eq!(constants.get("LIMIT"), Some(&(LIMIT as u32)));
 }
@@ -154,6 +157,65 @@ fn the_answer_is_the_bindings() {
         Answer::of_row(&[0, 1, 2, 3, 4, 5, 6, 7, 8]);
     let words = [number, steps, slots, bindings, table_words, exact, star, hook, nothing];
     assert_eq!(words, [0, 1, 2, 3, 4, 5, 6, 7, 8]);
+}
+
+/// An answer, and one word more.
+#[test]
+fn the_answer_of_a_listing_is_the_bindings() {
+    let header = read("infer_types.h");
+    let of_header =
+        "struct infer_types_listing_answer {\n    struct infer_types_answer answer;\n    uint32_t listing_words;\n};";
+    assert!(header.contains(of_header));
+    let offsets = [offset_of!(ListingAnswer, answer), offset_of!(ListingAnswer, listing_words)];
+    assert_eq!(offsets, [0, size_of::<Answer>()]);
+    assert_eq!(size_of::<ListingAnswer>(), size_of::<Answer>() + 4);
+}
+
+/// A section of docs/IMAGE.md.
+fn section(title: &str) -> String {
+    let page = read("../docs/IMAGE.md");
+    let lines = page.lines().skip_while(|line| *line != format!("## {title}")).skip(1);
+    lines.take_while(|line| !line.starts_with("## ")).flat_map(|line| [line, "\n"]).collect()
+}
+
+/// Each number is a row of its section, and of no other.
+#[test]
+fn the_page_has_every_number_once() {
+    for (title, first, last) in [
+        ("Numbers", Refusal::IMAGE_WORDS, Refusal::TABLE_WORDS),
+        ("Lists", Refusal::LIST, Refusal::RANGES),
+        ("Listings", Refusal::SLOT, Refusal::LISTING_WORDS),
+    ] {
+        let section = section(title);
+        let rows = section.lines().skip_while(|line| !line.starts_with("| number |")).skip(2);
+        let cells = rows.map_while(|line| line.strip_prefix("| ")?.split_once(" |"));
+        let numbers: Vec<u32> = cells.map(|cells| cells.0.parse().expect("a number")).collect();
+        let done = numbers.first() == Some(&Answer::DONE);
+        assert_eq!(numbers[done as usize..], (first..=last).collect::<Vec<_>>(), "{title}");
+    }
+}
+
+/// The rows in docs/IMAGE.md are lines of what host/c/listing.c prints, and read as the binding reads them.
+#[test]
+fn the_listing_on_the_page_is_the_examples() {
+    let (page, printed) = (section("Listings"), read("c/listing.out"));
+    let lines = page.lines().skip_while(|line| *line != "<!-- host/c/listing.out -->").skip(2);
+    let lines: Vec<&str> = lines.take_while(|line| *line != "```").collect();
+    assert!(lines.len() > 2 && printed.contains(&(lines.join("\n") + "\n")));
+    let mut words = vec![];
+    let mut meanings = vec![];
+    for line in lines {
+        let (left, meaning) = line.split_once("list ").expect(line);
+        let mut numbers = left.split_whitespace();
+        assert_eq!(numbers.next(), Some(words.len().to_string().as_str()), "{line}");
+        words.extend(numbers.map(|word| if word == "NONE" { NONE } else { word.parse().expect(line) }));
+        meanings.push(meaning.to_string());
+    }
+    let rows = ListingRows::new(&words).map(|(slot, binding)| match binding {
+        Some(binding) => format!("{} {binding}", slot.number()),
+        None => format!("{} none", slot.number()),
+    });
+    assert_eq!(rows.collect::<Vec<_>>(), meanings);
 }
 
 /// A type of each kind, in the order of the kinds.

@@ -1,2 +1,4 @@
 pub mod Listing
 pub mod Exactly
+pub mod Turns
+pub mod Worked

@@ -1,15 +1,24 @@
 // The variables of a listing, in order: depth first, each once. They stand where a finished run has done with the work words.
+ghost use mathlib.Core.Path.{_≡_};
+ghost use Prim.Native.Nat.{ℕ};
+ghost use Rattle.listing_walk.specs.Walk.{order-at, mark-at, Places, Placed, Push-asked, Pushes, Push-all-asked, Pushes-all, Seek-asked, Seeks, List-asked, Lists-one, Lists-asked, Lists-all};
 use run_layout::Layout;
 use unifier_nodes::node::Node;
 use unifier_nodes::node::node_at;
 
 // Where the variables listed stand, one after another: in the second half of the names log.
-pub fn order_of(lay: Layout) -> u32 {
+pub fn order_of(lay: Layout) -> u32
+    requires { ⌜ ((size : ℕ) × Places lay size) ⌝ }
+    ensures { λ r. ⌜ r ≡ order-at lay ⌝ }
+{
     lay.log + (lay.lo - lay.slots)
 }
 
 // Where a listed variable's place among them stands: after the slots' types, or that of a made slot over the first half of the names log.
-fn mark_of(lay: Layout, x: u32) -> u32 {
+fn mark_of(lay: Layout, x: u32) -> u32
+    requires { ⌜ Placed lay x ⌝ }
+    ensures { λ r. ⌜ r ≡ mark-at lay x ⌝ }
+{
     if x < lay.slots {
         return lay.entries + lay.slots + x;
     }
@@ -17,7 +26,10 @@ fn mark_of(lay: Layout, x: u32) -> u32 {
 }
 
 // Whether a variable is one of the n listed. What stands at the mark of one that is not may be any word.
-fn is_listed(w: &[u32], lay: Layout, n: u32, x: u32) -> bool {
+fn is_listed(w: &[u32], lay: Layout, n: u32, x: u32) -> bool
+    requires { ⌜ Seek-asked (now w) lay n x ⌝ }
+    ensures { λ r. ⌜ Seeks (now (w .entry)) lay n x r ⌝ }
+{
     let k = w[mark_of(lay, x) as usize];
     if k >= n {
         return false;
@@ -26,7 +38,10 @@ fn is_listed(w: &[u32], lay: Layout, n: u32, x: u32) -> bool {
 }
 
 // The variables of a type put at the end of those pending, the leftmost last: it is the next. Gives their new end.
-fn push_variables(w: &mut [u32], lo: u32, n: u32, end: u32) -> u32 {
+fn push_variables(w: &mut [u32], lo: u32, n: u32, end: u32) -> u32
+    requires { ⌜ Push-asked (now w) lo n end ⌝ }
+    ensures { λ r. ⌜ Pushes (now (w .entry)) (now (w .exit)) lo n end r ⌝ }
+{
     match node_at(w, lo, n) {
         Node::Var(x) => {
             w[end as usize] = x.0;
@@ -42,7 +57,10 @@ fn push_variables(w: &mut [u32], lo: u32, n: u32, end: u32) -> u32 {
 }
 
 // The same of a list of nodes below last, from right to left.
-fn push_operands(w: &mut [u32], lo: u32, last: u32, at: u32, count: u32, from: u32) -> u32 {
+fn push_operands(w: &mut [u32], lo: u32, last: u32, at: u32, count: u32, from: u32) -> u32
+    requires { ⌜ Push-all-asked (now w) lo last at count from ⌝ }
+    ensures { λ r. ⌜ Pushes-all (now (w .entry)) (now (w .exit)) lo last at count from r ⌝ }
+{
     let mut end = from;
     let mut k = count;
     while k > 0 {
@@ -54,7 +72,10 @@ fn push_operands(w: &mut [u32], lo: u32, last: u32, at: u32, count: u32, from: u
 }
 
 // A variable listed as the next after n, and those in its binding pending.
-fn list_variable(w: &mut [u32], lay: Layout, n: u32, x: u32, end: u32) -> u32 {
+fn list_variable(w: &mut [u32], lay: Layout, n: u32, x: u32, end: u32) -> u32
+    requires { ⌜ List-asked (now w) lay n x end ⌝ }
+    ensures { λ r. ⌜ Lists-one (now (w .entry)) (now (w .exit)) lay n x end r ⌝ }
+{
     w[mark_of(lay, x) as usize] = n;
     w[order_of(lay) as usize + n as usize] = x;
     let b = w[x as usize];
@@ -65,11 +86,13 @@ fn list_variable(w: &mut [u32], lay: Layout, n: u32, x: u32, end: u32) -> u32 {
 }
 
 // The variable of a slot and all that it leads to; gives how many they are.
-pub fn list_variables(w: &mut [u32], lay: Layout, slot: u32) -> u32 {
-    let pending = lay.stack;
-    let mut end = list_variable(w, lay, 0, slot, pending);
+pub fn list_variables(w: &mut [u32], lay: Layout, slot: u32) -> u32
+    requires { ⌜ Lists-asked (now w) lay slot ⌝ }
+    ensures { λ r. ⌜ Lists-all (now (w .entry)) (now (w .exit)) lay slot r ⌝ }
+{
+    let mut end = list_variable(w, lay, 0, slot, lay.stack);
     let mut n: u32 = 1;
-    while end > pending {
+    while end > lay.stack {
         end -= 1;
         let x = w[end as usize];
         if !is_listed(w, lay, n, x) {

@@ -1,12 +1,15 @@
 -- The output of the whole run by what its parts come to, and what it starts from. Assumes nothing.
 use Prim.Native.Nat.{ℕ, _-_, _≤_, _<_}
+use native.Mathlib.Omega.{arith}
 use mathlib.Core.Path.{_≡_, refl, sym, ap}
 use mathlib.Core.List.{List, [], _++_}
 use lib.ListN.{length}
+use lib.Dec.{leb}
+use borrow.Author.Tests.{le-leb, leb-true}
 use Rattle.image.specs.Ty.{Ty}
 use Rattle.image.specs.Image.{outermost}
 use Rattle.image.specs.Program.{Program, program, from-outermost}
-use Rattle.unifier_definition.specs.Log.{Log, lookup}
+use Rattle.unifier_definition.specs.Log.{Log, Binding, lookup}
 use Rattle.unifier_definition.specs.Outcome.{done, refused, Refusal, number-of, and-then}
 use Rattle.unifier_definition.specs.Unify.{unify-all}
 use Rattle.unifier_properties.specs.Lookup.{registry-of}
@@ -14,9 +17,10 @@ use Rattle.unifier_nodes.specs.Work.{at, Good, unbound}
 use Rattle.run_definition.specs.Generate.{generate}
 use Rattle.run_generate.specs.Generating.{generate-for}
 use Rattle.run_definition.specs.Visits.{visits, resolve-identifiers}
-use Rattle.run_definition.specs.Tables.{made-types}
-use Rattle.unifier_definition.specs.Counts.{no-lookups, count-lookups}
-use Rattle.run_definition.specs.Infer.{registry, infer-types, refusal, output-of}
+use Rattle.run_definition.specs.Tables.{made-types, tables-of}
+use Rattle.unifier_definition.specs.Counts.{Counts, no-lookups, count-lookups}
+use Rattle.unifier_definition.proofs.Outcomes.{by-bool}
+use Rattle.run_definition.specs.Infer.{registry, infer-types, refusal, output-of, with-tables}
 
 module _ (p : Program) (budget : ℕ) where
   -- the output where the equations are refused
@@ -34,6 +38,24 @@ module _ (p : Program) (budget : ℕ) where
       → infer-types p budget ≡ done (record { log = σ; types = types ++ made-types (length (p .entries)) (generate p .slots); counts = count-lookups (registry p) [] budget no-lookups (generate p .equations) }) s₁
   unfolding infer-types and-then
   run-done e q = rw (e, infer-types, q) refl
+
+module _ (lent steps : ℕ) (counts : Counts) (types : List Ty) (rows : List Binding) where
+  -- tables that are answered with 0 have room
+  pub tables-fit : with-tables lent steps counts types rows .answer .number ≡ 0 → length (tables-of types rows) ≤ lent
+  unfolding with-tables refusal
+  tables-fit z =
+      by-bool (leb (length (tables-of types rows)) lent)
+      (λ e. leb-true (length (tables-of types rows)) lent e)
+      (λ e. let h : _≡_ {A = ℕ} 14 0 = rw (e, with-tables) at z in omega arith)
+
+  -- the tables that are put out, and the slots of the answer, where they have
+  pub fit-tables : length (tables-of types rows) ≤ lent → with-tables lent steps counts types rows .tables ≡ tables-of types rows
+  unfolding with-tables
+  fit-tables h = rw (le-leb (length (tables-of types rows)) lent h, with-tables)
+
+  pub fit-slots : length (tables-of types rows) ≤ lent → with-tables lent steps counts types rows .answer .slots ≡ length types
+  unfolding with-tables
+  fit-slots h = rw (le-leb (length (tables-of types rows)) lent h, with-tables)
 
 -- words that are all 0 stand for no binding
 pub good-none : (w : List ℕ) (lo top : ℕ) → lo ≤ top → ((k : ℕ) → k < lo → at w k ≡ 0) → Good w lo top []

@@ -34,10 +34,10 @@ impl<'a> Screen<'a> {
     /// What its first run is lent: screens take up to 0.7 steps a word, and their tables up to 0.6 words.
     pub(crate) fn first_lent(&self) -> Lent {
         if self.is_too_large() {
-            return Lent { budget: self.budget, table_words: 0 };
+            return Lent { budget: self.budget, ..Lent::default() };
         }
         let words = self.image.len();
-        Lent { budget: self.budget.min(words as u32 * 3 / 4), table_words: words }
+        Lent { budget: self.budget.min(words as u32 * 3 / 4), table_words: words, ..Lent::default() }
     }
 
     /// The work words of a run with this budget, and the most bytes of its stack.
@@ -197,8 +197,8 @@ impl Runner {
         at: usize,
         left: usize,
     ) -> Result<Tables, Refusal> {
-        let most = Lent { budget: screen.budget, table_words: left };
-        if let Some(more) = screen.first_lent().more(answer, most) {
+        let most = Lent { budget: screen.budget, table_words: left, ..Lent::default() };
+        if let Some(more) = screen.first_lent().more(answer.into(), most) {
             return self.run(screen, more, most).cloned();
         }
         let refusal = Refusal::new(answer);

@@ -68,7 +68,15 @@ impl<'t> Inferred<'t> {
         Named { of: self, names }
     }
 
-    fn nodes(self) -> impl Iterator<Item = Node> + 't {
+    /// The variables in it, from left to right; one that occurs again comes again.
+    pub fn variables(self) -> impl Iterator<Item = Slot> + 't {
+        self.nodes().filter_map(|node| match node {
+            Node::Var(slot) => Some(slot),
+            _ => None,
+        })
+    }
+
+    pub(crate) fn nodes(self) -> impl Iterator<Item = Node> + 't {
         let mut words = self.words;
         std::iter::from_fn(move || {
             let (node, rest) = (!words.is_empty()).then(|| Node::read(words))?;
@@ -97,7 +105,7 @@ impl ExactSizeIterator for Operands<'_> {}
 
 /// A type without those below it, which follow it in the words: a function's return type, a phi's operands.
 #[derive(Clone, Copy)]
-enum Node {
+pub(crate) enum Node {
     Var(Slot),
     Primitive,
     Poly,
@@ -217,28 +225,45 @@ impl Named<'_> {
 
 impl fmt::Display for Named<'_> {
     fn fmt(&self, f: &mut fmt::Formatter<'_>) -> fmt::Result {
-        let mut due = vec![];
+        let mut phis = OpenPhis::default();
         for node in self.of.nodes() {
             self.write_node(f, node)?;
-            match node {
-                Node::Function { .. } => {}
-                Node::Phi(operands @ 1..) => due.push(operands),
-                _ => end_operand(f, &mut due)?,
-            }
+            let (ended, next) = phis.enter(node);
+            (0..ended).try_for_each(|_| f.write_str(")"))?;
+            f.write_str(if next { ", " } else { "" })?;
         }
         Ok(())
     }
 }
 
-/// What follows a type that has ended, by the operands that are due of each phi around it, itself among them.
-fn end_operand(f: &mut fmt::Formatter<'_>, due: &mut Vec<usize>) -> fmt::Result {
-    while let Some(operands) = due.last_mut() {
-        *operands -= 1;
-        if *operands > 0 {
-            return f.write_str(", ");
-        }
-        due.pop();
-        f.write_str(")")?;
+/// The phis around the node that is printed: how many operands of each are due.
+#[derive(Default)]
+pub(crate) struct OpenPhis(Vec<usize>);
+
+impl OpenPhis {
+    pub(crate) fn count(&self) -> usize {
+        self.0.len()
     }
-    Ok(())
+
+    /// After a node: how many phis have ended with it, and whether another operand of one follows.
+    pub(crate) fn enter(&mut self, node: Node) -> (usize, bool) {
+        match node {
+            Node::Function { .. } => return (0, false),
+            Node::Phi(operands @ 1..) => {
+                self.0.push(operands);
+                return (0, false);
+            }
+            _ => {}
+        }
+        let mut ended = 0;
+        while let Some(operands) = self.0.last_mut() {
+            *operands -= 1;
+            if *operands > 0 {
+                return (ended, true);
+            }
+            self.0.pop();
+            ended += 1;
+        }
+        (ended, false)
+    }
 }

@@ -12,11 +12,14 @@
 //! assert_eq!(tables.of(out).to_string(), "primitive");
 //! ```
 //!
-//! `infer_types` lends what the library needs, `infer_batch` for a list of screens, and a `Runner` for many of either;
-//! `infer_types_into` and `infer_batch_into` take the words that a host lends itself.
+//! `infer_types` lends what the library needs, `infer_batch` for a list of screens, `infer_listing` for the tables and the
+//! reason of one type in them, and a `Runner` for many of each; `infer_types_into`, `infer_batch_into` and
+//! `infer_listing_into` take the words that a host lends itself.
 
 mod batch;
+mod explanation;
 mod inferred;
+mod listing;
 mod lookups;
 mod refusal;
 mod runner;
@@ -24,8 +27,10 @@ mod stack;
 mod tables;
 
 pub use batch::{Screen, ScreenRefused, ANSWER_ROW, LIST_ROW, MOST_IMAGES};
+pub use explanation::Explanation;
 pub use infer_image::*;
 pub use inferred::{Inferred, Operands, TypeKind};
+pub use listing::{Listing, ListingAnswer, ListingRows};
 pub use lookups::Lookups;
 pub use refusal::{Fault, Refusal};
 pub use runner::Runner;
@@ -74,7 +79,7 @@ impl Answer {
 }
 
 mod linked {
-    use super::Answer;
+    use super::{Answer, ListingAnswer};
 
     #[link(name = "infer_types", kind = "static")]
     extern "C" {
@@ -113,6 +118,21 @@ mod linked {
             answers: *mut u32,
             answers_len: usize,
         ) -> u32;
+
+        pub fn infer_listing(
+            image: *const u32,
+            image_len: usize,
+            names: *const u8,
+            names_len: usize,
+            budget: u32,
+            work: *mut u32,
+            work_len: usize,
+            tables: *mut u32,
+            tables_len: usize,
+            slot: u32,
+            listing: *mut u32,
+            listing_len: usize,
+        ) -> ListingAnswer;
     }
 }
 
@@ -204,13 +224,62 @@ pub fn infer_batch_into(
     }
 }
 
+/// One call of the library for the tables and for the listing of a slot, with lent work, table and listing words, on the
+/// stack of the caller.
+///
+/// The answer is that of `infer_types_into`; if that is done, the call may still be refused with `Refusal::SLOT`, or else
+/// with `Refusal::LISTING_WORDS`, which says how many are wanted. The listing stands from the first listing word on and
+/// is read by `ListingRows::new`. Words past those written keep what they held, a refusal writes no table or listing
+/// word, and work words and stack are as `infer_types_into` says.
+pub fn infer_listing_into(
+    image: &[u32],
+    names: &[u8],
+    budget: u32,
+    work: &mut [u32],
+    tables: &mut [u32],
+    slot: Slot,
+    listing: &mut [u32],
+) -> ListingAnswer {
+    // SAFETY: each pointer comes with its slice's length; the library keeps none of them, reads image and names, and
+    // writes within work, tables and listing alone (its contract, proved). The slices can't overlap: three are exclusive.
+    unsafe {
+        linked::infer_listing(
+            image.as_ptr(),
+            image.len(),
+            names.as_ptr(),
+            names.len(),
+            budget,
+            work.as_mut_ptr(),
+            work.len(),
+            tables.as_mut_ptr(),
+            tables.len(),
+            slot.number(),
+            listing.as_mut_ptr(),
+            listing.len(),
+        )
+    }
+}
+
 /// The types of an image's slots and the bindings of their variables, in at most so many steps: one run of a new
 /// `Runner`, which says what is lent. It takes at most 1 MiB of the caller's stack, and panics if the system gives no
 /// thread for a deeper one.
 pub fn infer_types(image: &[u32], names: &[u8], budget: u32) -> Result<Tables, Refusal> {
     let mut runner = Runner::new();
     runner.infer_types(image, names, budget)?;
-    Ok(runner.into_tables())
+    Ok(runner.tables)
+}
+
+/// The tables of an image and the listing of a slot, in at most so many steps: one run of a new `Runner`, which says what
+/// is lent. It takes at most 1 MiB of the caller's stack, and panics if the system gives no thread for a deeper one.
+pub fn infer_listing(
+    image: &[u32],
+    names: &[u8],
+    budget: u32,
+    slot: Slot,
+) -> Result<(Tables, Listing), Refusal> {
+    let mut runner = Runner::new();
+    runner.infer_listing(image, names, budget, slot)?;
+    Ok((runner.tables, runner.listing))
 }
 
 /// The types of every screen of a list, in its order: one run of a new `Runner`, which says what is lent. It takes at

@@ -40,6 +40,9 @@ impl Refusal {
     /// Of a whole list, as the next: no screen is run.
     pub const LIST: u32 = 15;
     pub const RANGES: u32 = 16;
+    /// Of a listing, as the next: the run itself has succeeded.
+    pub const SLOT: u32 = 17;
+    pub const LISTING_WORDS: u32 = 18;
     /// Of a screen after the one that ended its list with 14.
     pub const NOT_RUN: u32 = NONE;
 
@@ -55,9 +58,7 @@ impl Refusal {
     pub fn fault(&self) -> Fault {
         match self.number {
             Self::IMAGE_WORDS..=Self::WORK_WORDS
-            | Self::TABLE_WORDS
-            | Self::LIST
-            | Self::RANGES
+            | Self::TABLE_WORDS..=Self::LISTING_WORDS
             | Self::NOT_RUN => Fault::Caller,
             Self::EMPTY_PHI..=Self::OUT_OF_STEPS => Fault::ScreenAuthor,
             _ => Fault::ImageWriter,
@@ -108,6 +109,12 @@ impl Refusal {
             }
             Self::RANGES => {
                 "A row of the list names image words or name bytes that aren't lent: look at its starts and lengths."
+            }
+            Self::SLOT => {
+                "The slot whose listing is asked for isn't in the tables: ask for one below the run's count of slots."
+            }
+            Self::LISTING_WORDS => {
+                "The listing is longer than the words that are lent: lend as many as are wanted, or let a Runner do so."
             }
             Self::NOT_RUN => {
                 "The tables of a screen before it were longer than what remained of the table words, which ended the list: lend more, or run the rest as another list."

@@ -1,6 +1,7 @@
 //! Runs of many images, with words and steps lent as they are needed.
 
 use crate::batch::{Lists, Screen};
+use crate::listing::{Listing, ListingAnswer};
 use crate::stack::with_stack;
 use crate::{infer_types_into, Answer, Refusal, Tables, LIMIT};
 
@@ -9,23 +10,44 @@ const TABLE_WORDS_AT_MOST: usize = 64 * LIMIT;
 /// How many times more is lent the next time, if what was lent was used up.
 pub(crate) const GROWTH: u32 = 8;
 
-/// What a run is lent: steps, and the work words for them; table words.
-#[derive(Clone, Copy, Debug)]
+/// What a run is lent: steps, and the work words for them; table words; listing words.
+#[derive(Clone, Copy, Debug, Default)]
 pub(crate) struct Lent {
     pub(crate) budget: u32,
     pub(crate) table_words: usize,
+    pub(crate) listing_words: usize,
 }
 
 impl Lent {
     /// More of what was the reason to refuse, if more may be lent.
-    pub(crate) fn more(self, answer: Answer, most: Lent) -> Option<Lent> {
-        let wanted = answer.table_words as usize;
+    pub(crate) fn more(self, answer: ListingAnswer, most: Lent) -> Option<Lent> {
+        let ListingAnswer { answer, listing_words } = answer;
+        let (table_words, listing_words) = (answer.table_words as usize, listing_words as usize);
         match answer.number {
             Refusal::OUT_OF_STEPS if self.budget < most.budget => {
                 Some(Lent { budget: most.budget.min(GROWTH * self.budget), ..self })
             }
-            Refusal::TABLE_WORDS if wanted <= most.table_words => Some(Lent { table_words: wanted, ..self }),
+            Refusal::TABLE_WORDS if table_words <= most.table_words => Some(Lent { table_words, ..self }),
+            Refusal::LISTING_WORDS if listing_words <= most.listing_words => {
+                Some(Lent { listing_words, ..self })
+            }
             _ => None,
+        }
+    }
+}
+
+/// Calls with ever more steps and words, until these aren't the reason to refuse or no more may be lent.
+pub(crate) fn lend_more(
+    first: Lent,
+    most: Lent,
+    mut call: impl FnMut(Lent) -> ListingAnswer,
+) -> ListingAnswer {
+    let mut lent = Lent { table_words: first.table_words.min(most.table_words), ..first };
+    loop {
+        let answer = call(lent);
+        match lent.more(answer, most) {
+            Some(more) => lent = more,
+            None => return answer,
         }
     }
 }
@@ -60,7 +82,8 @@ pub(crate) fn lend(words: &mut Vec<u32>, count: usize) -> &mut [u32] {
 pub struct Runner {
     pub(crate) table_words_at_most: usize,
     pub(crate) work: Vec<u32>,
-    tables: Tables,
+    pub(crate) tables: Tables,
+    pub(crate) listing: Listing,
     pub(crate) lists: Lists,
 }
 
@@ -70,6 +93,7 @@ impl Default for Runner {
             table_words_at_most: TABLE_WORDS_AT_MOST,
             work: vec![],
             tables: Tables::default(),
+            listing: Listing::default(),
             lists: Lists::default(),
         }
     }
@@ -95,28 +119,22 @@ impl Runner {
     /// over 1 MiB runs on a stack of its own. Panics if the system gives no thread for it.
     pub fn infer_types(&mut self, image: &[u32], names: &[u8], budget: u32) -> Result<&Tables, Refusal> {
         let screen = Screen { image, names, budget };
-        self.run(&screen, screen.first_lent(), Lent { budget, table_words: self.table_words_at_most })
+        let most = Lent { budget, table_words: self.table_words_at_most, ..Lent::default() };
+        self.run(&screen, screen.first_lent(), most)
     }
 
-    /// The tables of the last run, which has succeeded.
-    pub(crate) fn into_tables(self) -> Tables {
-        self.tables
-    }
-
-    /// Calls with ever more steps and table words, until these aren't the reason to refuse or no more may be lent.
+    /// A run that is lent ever more, from the first on.
     pub(crate) fn run(&mut self, screen: &Screen, first: Lent, most: Lent) -> Result<&Tables, Refusal> {
-        let mut lent = Lent { table_words: first.table_words.min(most.table_words), ..first };
-        let answer = loop {
-            let answer = self.call(screen, lent);
-            match lent.more(answer, most) {
-                Some(more) => lent = more,
-                None => break answer,
-            }
-        };
+        let ListingAnswer { answer, .. } = lend_more(first, most, |lent| self.call(screen, lent).into());
+        self.read(answer, screen.image)
+    }
+
+    /// Reads the tables that the last call left, if it succeeded.
+    pub(crate) fn read(&mut self, answer: Answer, image: &[u32]) -> Result<&Tables, Refusal> {
         if answer.number != Answer::DONE {
             return Err(Refusal::new(answer));
         }
-        self.tables.read(answer, screen.image);
+        self.tables.read(answer, image);
         Ok(&self.tables)
     }
 

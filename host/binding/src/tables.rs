@@ -2,7 +2,7 @@
 
 use crate::inferred::{type_words, Inferred};
 use crate::{Answer, Lookups};
-use infer_image::parts::Table;
+use infer_image::parts::{rows, Table};
 use infer_image::{Identifier, Slot};
 use std::fmt;
 use std::ops::Range;
@@ -54,7 +54,8 @@ impl Tables {
             at = end;
         }
         self.identifier_slots.clear();
-        self.identifier_slots.extend(identifier_slots(image));
+        let identifiers = rows(image, Table::Identifiers);
+        self.identifier_slots.extend(identifiers.map(|row| Slot::from_number(row[0])));
     }
 
     /// The words, as the library wrote them.
@@ -118,14 +119,6 @@ impl Tables {
     fn type_at(&self, range: &Range<usize>) -> Inferred<'_> {
         Inferred::new(&self.words[range.clone()])
     }
-}
-
-/// The first column of the identifiers' table.
-fn identifier_slots(image: &[u32]) -> impl Iterator<Item = Slot> + '_ {
-    let count = image[Table::Identifiers.count_at()] as usize;
-    let start = image[Table::Identifiers.offset_at()] as usize;
-    let rows = image[start..].chunks_exact(Table::Identifiers.width()).take(count);
-    rows.map(|row| Slot::from_number(row[0]))
 }
 
 impl fmt::Display for Tables {

@@ -216,7 +216,7 @@ fn any_screen(random: &mut Random) -> (Image, u32, u32) {
         _ => valid.input,
     };
     let budget = random.pick(&[0, 10, 100, 1_000, 65_536, 65_536, 65_536, 65_537]);
-    (Image { words: input.image, names: input.names, shape_names: ShapeNames::new() }, budget, 0)
+    (of_words(input.image, input.names), budget, 0)
 }
 
 #[test]

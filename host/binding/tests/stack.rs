@@ -77,19 +77,27 @@ fn every_deep_image_in_one_list() {
     });
 }
 
-/// The bytes that a call is said to take are enough for it and for a list of it, with 16 KiB for the thread itself.
+/// The bytes that a call is said to take are enough for it, for a list of it and for the listing of a slot, with 16 KiB
+/// for the thread itself.
 #[test]
 fn no_deep_image_takes_more_than_its_bound() {
     for case in deep::deep() {
         let (image, names) = (&case.input.image, &case.input.names);
         for budget in (10..=16).map(|bits| 1 << bits) {
             let (mut work, mut tables) = (vec![0; work_words(image.len(), budget)], vec![0; 1 << 20]);
+            let mut listing = vec![0; 1 << 20];
             let list = [0, image.len() as u32, 0, names.len() as u32, budget];
             on_stack(stack_bytes(image, budget) + (16 << 10), || {
                 let answer = infer_types_into(image, names, budget, &mut work, &mut tables);
                 let mut row = [0; ANSWER_ROW];
                 infer_batch_into(&list, image, names, &mut work, &mut tables, &mut row);
                 assert_eq!(Answer::of_row(&row), answer);
+                for slot in [0, 1, answer.slots / 2, answer.slots.saturating_sub(1)] {
+                    let (slot, work) = (Slot::from_number(slot), &mut work);
+                    let listed =
+                        infer_listing_into(image, names, budget, work, &mut tables, slot, &mut listing);
+                    assert_eq!(listed.answer, answer);
+                }
             });
         }
     }

@@ -3,6 +3,8 @@
 use crate::answer::Library;
 use crate::inputs::{self, Sort};
 use crate::linked::Linked;
+use crate::screens;
+use host::random::Random;
 use infer_image::parts::Input;
 use std::ops::Range;
 use std::time::Duration;
@@ -34,13 +36,26 @@ pub fn timed(first: u64, sizes: &Range<usize>, count: usize) -> Vec<Timed> {
 }
 
 fn wanted(number: u64, sizes: &Range<usize>, asked: &mut Linked) -> Option<Timed> {
-    let (sort, mut input) = inputs::input(number);
+    let (sort, input) = inputs::input(number);
     if sort != Sort::Screen
         || !sizes.contains(&input.image.len())
         || std::str::from_utf8(&input.names).is_err()
     {
         return None;
     }
+    ended(input, asked)
+}
+
+/// So many screens of nearly as many words as an image may have, all of them in use.
+pub fn largest(first: u64, count: usize) -> Vec<Timed> {
+    let mut asked = Linked::default();
+    let screen = |number| screens::screen(&mut Random::new(number), 65_000).input;
+    let large = (first..).map(screen).filter(|input| input.image.len() > 60_000);
+    large.filter_map(|input| ended(input, &mut asked)).take(count).collect()
+}
+
+/// The input and what its run takes, if that ends well within the whole budget.
+pub fn ended(mut input: Input, asked: &mut Linked) -> Option<Timed> {
     input.budget = WHOLE_BUDGET;
     input.lend_enough();
     let answer = asked.answer(&input);

@@ -20,7 +20,6 @@ use infer_types::{
     infer_batch_into, infer_types, Refusal, Runner, Screen, ANSWER_ROW, LIMIT, LIST_ROW, MOST_IMAGES,
 };
 use std::io::Write;
-use std::slice;
 use std::time::{Duration, Instant};
 
 const MOST_LIST: usize = LIST_ROW * 66_000;
@@ -82,12 +81,6 @@ struct Tests {
     total: Counts,
 }
 
-/// The words at their place in read-only memory.
-fn lend<'a, T: Copy>(memory: &'a mut Memory, items: &[T]) -> &'a [T] {
-    // SAFETY: so many stand there, and nothing changes them while the memory is borrowed.
-    unsafe { slice::from_raw_parts(memory.lend(items, Side::End, 0xFF), items.len()) }
-}
-
 impl Tests {
     fn new() -> Tests {
         Tests {
@@ -105,8 +98,9 @@ impl Tests {
     /// One call; all that it leaves has to be as expected. Gives the time that it took.
     fn run(&mut self, case: &ListCase) -> Duration {
         let List { words, images, names, work, tables, answers } = &case.list;
-        let (words, images, names) =
-            (lend(&mut self.list, words), lend(&mut self.images, images), lend(&mut self.names, names));
+        let words = self.list.lend_slice(words, Side::End, 0xFF);
+        let images = self.images.lend_slice(images, Side::End, 0xFF);
+        let names = self.names.lend_slice(names, Side::End, 0xFF);
         let (before_work, work) = self.work.hold(*work, HELD[0]);
         let (before_tables, tables) = self.tables.hold(*tables, HELD[1]);
         let (before_answers, answers) = self.answers.hold(*answers, HELD[2]);

@@ -11,7 +11,6 @@ use host::random::Random;
 use host::report::{fail, require, row};
 use host::{corpus, damage, edges, generate, hostile, plain, report};
 use infer_types::image_check;
-use std::slice;
 use std::time::Duration;
 
 const GENERATED: u32 = 200_000;
@@ -27,11 +26,7 @@ impl Tests {
     /// The archive's answer with the input at one side of its memory, and the time that it took.
     fn ask(&mut self, case: &Case, side: Side, fill: u8) -> (u32, Duration) {
         let Input { image, names, budget, work } = &case.input;
-        let (image_at, names_at) = (self.words.lend(image, side, fill), self.bytes.lend(names, side, fill));
-        // SAFETY: so many words and bytes stand there, and nothing changes them meanwhile.
-        let lent = unsafe {
-            (slice::from_raw_parts(image_at, image.len()), slice::from_raw_parts(names_at, names.len()))
-        };
+        let lent = (self.words.lend_slice(image, side, fill), self.bytes.lend_slice(names, side, fill));
         let start = processor_time();
         let answer = image_check(lent.0, lent.1, *budget, *work);
         let time = processor_time() - start;

@@ -12,7 +12,6 @@ use host::stack::{on_stack, DEFAULT_STACK, STACK, WHOLE_STACK};
 use host::{answers, corpus, deep, report};
 use infer_types::{infer_types, infer_types_into, Answer, Refusal, Runner, Tables, LIMIT};
 use std::io::Write;
-use std::slice;
 use std::time::Instant;
 
 const MOST_WORK: usize = 8 * 2 * LIMIT + 1_000_000;
@@ -46,15 +45,11 @@ impl Tests {
     /// One run with so many work words and table words; all that it leaves has to be as expected.
     fn run(&mut self, case: &Case, work: usize, tables: usize, expected: Expected) {
         let Input { image, names, budget, .. } = &case.input;
-        let image_at = self.image.lend(image, Side::End, 0xFF);
-        let names_at = self.names.lend(names, Side::End, 0xFF);
+        let image = self.image.lend_slice(image, Side::End, 0xFF);
+        let names = self.names.lend_slice(names, Side::End, 0xFF);
         let (before_work, work) = self.work.hold(work, HELD[0]);
         let (before_tables, tables) = self.tables.hold(tables, HELD[1]);
         report::start(case);
-        // SAFETY: so many words and bytes stand there, and nothing changes them during the call.
-        let (image, names) = unsafe {
-            (slice::from_raw_parts(image_at, image.len()), slice::from_raw_parts(names_at, names.len()))
-        };
         let answer = infer_types_into(image, names, *budget, work, tables);
         let lent = (work.len(), tables.len());
         let check = |holds: bool, what: &str| {

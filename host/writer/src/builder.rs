@@ -1,8 +1,9 @@
 //! The builder of images for hosts.
 
 use crate::block::Body;
-use crate::parts::{self, option_bits, Table, NONE};
+use crate::parts::{self, option_bits, rows, Table, NONE};
 use crate::shape_names::ShapeNames;
+use crate::slot_names::SlotNames;
 use std::collections::HashMap;
 use std::fmt;
 
@@ -65,6 +66,27 @@ pub struct Image {
     pub words: Vec<u32>,
     pub names: Vec<u8>,
     pub shape_names: ShapeNames,
+    pub slot_names: SlotNames,
+}
+
+impl Image {
+    /// The slot of an identifier. Panics if the image has no such identifier.
+    pub fn slot_of(&self, identifier: Identifier) -> Slot {
+        let (slot, _) = self.identifiers().nth(identifier.0 as usize).expect("an identifier of the image");
+        slot
+    }
+
+    /// The slots of the identifiers, in their order, and the bytes of their names. The image has to be one that the
+    /// library's check passes, or else this may panic.
+    pub fn identifiers(&self) -> impl Iterator<Item = (Slot, Option<&[u8]>)> {
+        rows(&self.words, Table::Identifiers).map(|row| (Slot(row[0]), self.name_bytes(row[1])))
+    }
+
+    fn name_bytes(&self, name: u32) -> Option<&[u8]> {
+        let row = (name != NONE).then(|| rows(&self.words, Table::Names).nth(name as usize))?;
+        let &[start, length] = row.expect("a name of the image") else { unreachable!("a row of two words") };
+        Some(&self.names[start as usize..][..length as usize])
+    }
 }
 
 /// A function that was announced and got no body.
@@ -85,6 +107,7 @@ pub struct Builder {
     image: parts::Image,
     names: HashMap<Vec<u8>, Name>,
     shape_names: ShapeNames,
+    slot_names: SlotNames,
     bodies: Vec<Option<parts::Body>>,
 }
 
@@ -147,6 +170,13 @@ impl Builder {
     pub fn identifier(&mut self) -> Identifier {
         let slot = self.slot();
         self.identifier_of(slot, None)
+    }
+
+    /// The same, with a text that it is printed by: what stands in the source, for example. The library isn't told.
+    pub fn described(&mut self, text: impl Into<String>) -> Identifier {
+        let identifier = self.identifier();
+        self.slot_names.set(self.slot_of(identifier), text);
+        identifier
     }
 
     /// A named identifier with a slot of its own.
@@ -255,7 +285,12 @@ impl Builder {
             self.image.body(body.ok_or(Missing(Function(number as u32)))?);
         }
         let input = self.image.write();
-        Ok(Image { words: input.image, names: input.names, shape_names: self.shape_names })
+        Ok(Image {
+            words: input.image,
+            names: input.names,
+            shape_names: self.shape_names,
+            slot_names: self.slot_names,
+        })
     }
 }
 

@@ -7,7 +7,9 @@ mod block;
 mod builder;
 pub mod parts;
 mod shape_names;
+mod slot_names;
 
 pub use block::{Argument, Block, Body, Element, Key, Prop};
 pub use builder::{shapes, Builder, Function, Identifier, Image, Missing, Name, Shape, Slot, Type};
 pub use shape_names::ShapeNames;
+pub use slot_names::SlotNames;

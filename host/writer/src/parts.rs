@@ -62,6 +62,12 @@ impl Table {
     }
 }
 
+/// The rows of a table in the words of an image that passed the check.
+pub fn rows(words: &[u32], table: Table) -> impl Iterator<Item = &[u32]> {
+    let [count, start] = [table.count_at(), table.offset_at()].map(|at| words[at] as usize);
+    words[start..].chunks_exact(table.width()).take(count)
+}
+
 numbered! {
     /// `InstructionValue`, in the order in which it is declared.
     Kind {

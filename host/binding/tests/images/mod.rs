@@ -3,6 +3,11 @@
 
 use infer_types::*;
 
+/// An image that is there in words alone.
+pub fn of_words(words: Vec<u32>, names: Vec<u8>) -> Image {
+    Image { words, names, shape_names: ShapeNames::new(), slot_names: SlotNames::new() }
+}
+
 /// One function of one block, over an identifier beside the one that it returns.
 pub fn of_one_block(write: impl FnOnce(&mut Block, Identifier)) -> Image {
     let mut image = Builder::new();

@@ -1,0 +1,4 @@
+pub mod Lending
+pub mod RunParts
+pub mod WholeRun
+pub mod SolvedLaws
