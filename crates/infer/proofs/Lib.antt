@@ -1,3 +1,2 @@
-pub mod EntryLaws
-pub mod WholeRun
+pub mod RunWords
 pub mod EntryWords

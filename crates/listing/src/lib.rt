@@ -1,4 +1,11 @@
 // A run and the listing that explains a slot's type.
+ghost use mathlib.Core.Path.{_≡_};
+ghost use Rattle.run_tables.specs.Writing.{counting, writing, table};
+ghost use Rattle.run_solve.specs.Solve.{Run-asked};
+ghost use Rattle.listing.specs.Entry.{Lists};
+ghost use Rattle.listing.specs.Rows.{Asks-row, Emits-row, Asks-listing, Emits-listing, Writes-listing, Runs-listing};
+ghost use Rattle.run_definition.specs.More.{refused-more};
+ghost use Rattle.run_answer.specs.Lent.{answer-of};
 use image::NONE;
 use image::WORK_WORDS_EACH;
 use image::refusals;
@@ -7,25 +14,21 @@ use listing_walk::order_of;
 use run_answer::Answer;
 use run_answer::clear;
 use run_answer::refusal;
-use run_solve::Solved;
 use run_tables::type_size;
 use run_tables::write_type;
 
+// The answer of a run, and the words of its listing.
 #[repr(C)]
 pub struct ListingAnswer {
     pub answer: Answer,
     pub listing_words: u32,
 }
 
-fn refused(number: u32, steps: u32, listing_words: u32) -> ListingAnswer {
-    ListingAnswer {
-        answer: refusal(number, steps, 0),
-        listing_words,
-    }
-}
-
 // A row's words, added to those so far.
-fn row_size(w: &[u32], lo: u32, x: u32, words: u32) -> u32 {
+fn row_size(w: &[u32], lo: u32, x: u32, words: u32) -> u32
+    requires { ⌜ Asks-row counting (now w) lo x words ⌝ }
+    ensures { λ r. ⌜ Emits-row counting (now (w .entry)) lo x words r ⌝ }
+{
     let b = w[x as usize];
     if b == 0 {
         return words + 2;
@@ -33,18 +36,25 @@ fn row_size(w: &[u32], lo: u32, x: u32, words: u32) -> u32 {
     type_size(w, lo, b - 1, words + 1)
 }
 
-// Words of the rows of the n variables that stand from `order` on.
-fn listing_size(w: &[u32], lo: u32, order: u32, n: u32) -> u32 {
+// Words of the rows of n variables, which stand from `order` on.
+fn listing_size(w: &[u32], lo: u32, order: u32, n: u32) -> u32
+    requires { ⌜ Asks-listing counting (now w) lo order n 0 ⌝ }
+    ensures { λ r. ⌜ Emits-listing counting (now (w .entry)) lo order n 0 r ⌝ }
+{
     let mut words: u32 = 0;
     let mut k: u32 = 0;
     while k < n {
-        words = row_size(w, lo, w[order as usize + k as usize], words);
+        let x = w[order as usize + k as usize];
+        words = row_size(w, lo, x, words);
         k += 1;
     }
     words
 }
 
-fn write_row(w: &[u32], lo: u32, x: u32, t: &mut [u32], at: usize) -> usize {
+fn write_row(w: &[u32], lo: u32, x: u32, t: &mut [u32], at: usize) -> usize
+    requires { ⌜ Asks-row writing (now w) lo x (table (now t) at) ⌝ }
+    ensures { λ r. ⌜ Emits-row writing (now (w .entry)) lo x (table (now (t .entry)) at) (table (now (t .exit)) r) ⌝ }
+{
     t[at] = x;
     let b = w[x as usize];
     if b == 0 {
@@ -54,28 +64,54 @@ fn write_row(w: &[u32], lo: u32, x: u32, t: &mut [u32], at: usize) -> usize {
     write_type(w, lo, b - 1, t, at + 1)
 }
 
-fn write_listing(w: &[u32], lo: u32, order: u32, n: u32, t: &mut [u32]) {
+fn write_listing(w: &[u32], lo: u32, order: u32, n: u32, t: &mut [u32])
+    requires { ⌜ Asks-listing writing (now w) lo order n (table (now t) 0) ⌝ }
+    ensures { λ _. ⌜ Writes-listing (now (w .entry)) lo order n (now (t .entry)) (now (t .exit)) ⌝ }
+{
     let mut next: usize = 0;
     let mut k: u32 = 0;
     while k < n {
-        next = write_row(w, lo, w[order as usize + k as usize], t, next);
+        let x = w[order as usize + k as usize];
+        next = write_row(w, lo, x, t, next);
         k += 1;
     }
 }
 
-// What is asked of a finished run: its tables and the listing, written once nothing can be refused any more.
-fn finish(
+// Refused by a test of the listing.
+fn refused(number: u32, steps: u32, listing_words: u32) -> ListingAnswer
+    ensures { λ r. ⌜ (answer-of (r .answer) ≡ refused-more number steps «listing_words» .answer) × (r .«listing_words» ≡ «listing_words») ⌝ }
+{
+    ListingAnswer {
+        answer: refusal(number, steps, 0),
+        listing_words,
+    }
+}
+
+// Everything after the check, in as many work words as it takes. Nothing is written before the last test.
+fn run(
+    img: &[u32],
+    bytes: &[u8],
+    budget: u32,
     w: &mut [u32],
-    s: Solved,
-    slot: u32,
     tables: &mut [u32],
+    slot: u32,
     listing: &mut [u32],
-) -> ListingAnswer {
+) -> ListingAnswer
+    requires { ⌜ Run-asked (now img) (now bytes) budget (now w) ⌝ }
+    ensures { λ r. ⌜ Runs-listing (now (img .entry)) (now (bytes .entry)) budget (now (w .entry)) (now (w .exit)) (now (tables .entry)) (now (tables .exit)) slot (now (listing .entry)) (now (listing .exit)) r ⌝ }
+{
+    let s = run_solve::solve(img, bytes, budget, w, tables.len());
     let answer = s.answer;
-    let lay = s.lay;
+    if answer.number != 0 {
+        return ListingAnswer {
+            answer,
+            listing_words: 0,
+        };
+    }
     if slot >= answer.slots {
         return refused(refusals::SLOT, answer.steps, 0);
     }
+    let lay = s.lay;
     let n = list_variables(w, lay, slot);
     let order = order_of(lay);
     let listing_words = listing_size(w, lay.lo, order, n);
@@ -90,28 +126,7 @@ fn finish(
     }
 }
 
-// Everything after the check, in as many work words as it takes.
-fn run(
-    img: &[u32],
-    bytes: &[u8],
-    budget: u32,
-    w: &mut [u32],
-    slot: u32,
-    tables: &mut [u32],
-    listing: &mut [u32],
-) -> ListingAnswer {
-    let s = run_solve::solve(img, bytes, budget, w, tables.len());
-    let answer = s.answer;
-    if answer.number != 0 {
-        return ListingAnswer {
-            answer,
-            listing_words: 0,
-        };
-    }
-    finish(w, s, slot, tables, listing)
-}
-
-// The image check, then the run, then the listing.
+// The image check, then the run, then the listing of a slot.
 pub fn infer_listing(
     image: &[u32],
     names: &[u8],
@@ -120,7 +135,9 @@ pub fn infer_listing(
     tables: &mut [u32],
     slot: u32,
     listing: &mut [u32],
-) -> ListingAnswer {
+) -> ListingAnswer
+    ensures { λ r. ⌜ Lists (now (image .entry)) (now (names .entry)) budget (now (work .entry)) (now (work .exit)) (now (tables .entry)) (now (tables .exit)) slot (now (listing .entry)) (now (listing .exit)) r ⌝ }
+{
     let number = image_check::check(image, names, budget, work.len());
     if number != 0 {
         return refused(number, 0, 0);
@@ -131,8 +148,8 @@ pub fn infer_listing(
         names,
         budget,
         &mut work[..need],
-        slot,
         tables,
+        slot,
         listing,
     );
     clear(work, work.len());

@@ -5,3 +5,4 @@ pub mod Followed
 pub mod Listed
 pub mod Reading
 pub mod Sound
+pub mod Sizes

@@ -17,10 +17,10 @@ use Rattle.unifier_definition.proofs.Logs.{size-of-log}
 use Rattle.run_definition.specs.Tables.{written-binding}
 use Rattle.run_definition.proofs.RowSizes.{rows-length}
 use Rattle.listing_definition.specs.Listing.{inside}
-use Rattle.listing_definition.specs.Turns.{unlisted}
+use Rattle.listing_definition.specs.Turns.{to-come, unlisted}
 
 -- a slot and its binding
-abbrev row : ℕ → Ty → Binding
+abbrev pub row : ℕ → Ty → Binding
 row x t = record { slot = x; type = t }
 
 -- what is bound has a row
@@ -35,37 +35,44 @@ bound-row (b ∷ bs) x t e =
     List·Memᴰ·head (λ i. record { slot = eqb-true x (b .slot) q i; type = u i }))
     (λ q. List·Memᴰ·tail (bound-row bs x t (rw (q, lookup) at e)))
 
--- one more listed leaves no more of them
-fewer : (x : ℕ) (listed : List ℕ) (bs : List Binding) → unlisted (x ∷ listed) bs ≤ unlisted listed bs
-unfolding unlisted member
-fewer x listed [] = omega arith
-fewer x listed (b ∷ bs) =
-    let r = fewer x listed bs in
-    by-bool (eqb (b .slot) x)
-    (λ e. by-bool (member (b .slot) listed) (λ g. rw (e, g, member, unlisted) r) (λ g. rw (e, g, member, unlisted) (omega arith)))
-    (λ e. by-bool (member (b .slot) listed) (λ g. rw (e, g, member, unlisted) r) (λ g. rw (e, g, member, unlisted) (omega arith)))
+module _ (has : Binding → ℕ) where
+  -- one more listed leaves no more of them
+  pub fewer : (x : ℕ) (listed : List ℕ) (bs : List Binding) → to-come has (x ∷ listed) bs ≤ to-come has listed bs
+  unfolding to-come member
+  fewer x listed [] = omega arith
+  fewer x listed (b ∷ bs) =
+      let r = fewer x listed bs in
+      by-bool (eqb (b .slot) x)
+      (λ e. by-bool (member (b .slot) listed) (λ g. rw (e, g, member, to-come) r) (λ g. rw (e, g, member, to-come) (omega arith)))
+      (λ e. by-bool (member (b .slot) listed) (λ g. rw (e, g, member, to-come) r) (λ g. rw (e, g, member, to-come) (omega arith)))
 
--- and without those of its row
-taken : (x : ℕ) (t : Ty) (listed : List ℕ) (bs : List Binding) → member x listed ≡ false → List·Memᴰ (row x t) bs → unlisted (x ∷ listed) bs + length (variables t) ≤ unlisted listed bs
-unfolding unlisted member
-taken x t listed [] n m = absurd (List·Memᴰ·not-nil m)
-taken x t listed (b ∷ bs) n m = go (List·Memᴰ·cases-cons m) (λ k. taken x t listed bs n k)
-  where
-    go : (row x t ≡ b) ⊎ List·Memᴰ (row x t) bs → (List·Memᴰ (row x t) bs → unlisted (x ∷ listed) bs + length (variables t) ≤ unlisted listed bs)
-        → unlisted (x ∷ listed) (b ∷ bs) + length (variables t) ≤ unlisted listed (b ∷ bs)
-    go (inl e) below = subst (λ (y : Binding). unlisted (x ∷ listed) (y ∷ bs) + length (variables t) ≤ unlisted listed (y ∷ bs)) e (let r = fewer x listed bs in rw (eq-eqb x x refl, n, member, unlisted) (omega arith))
-    go (inr k) below =
-        let r = below k in
-        by-bool (eqb (b .slot) x)
-        (λ e. by-bool (member (b .slot) listed) (λ g. rw (e, g, member, unlisted) r) (λ g. rw (e, g, member, unlisted) (omega arith)))
-        (λ e. by-bool (member (b .slot) listed) (λ g. rw (e, g, member, unlisted) r) (λ g. rw (e, g, member, unlisted) (omega arith)))
+  -- and without what its row has
+  pub taken : (x : ℕ) (t : Ty) (listed : List ℕ) (bs : List Binding) → member x listed ≡ false → List·Memᴰ (row x t) bs → to-come has (x ∷ listed) bs + has (row x t) ≤ to-come has listed bs
+  unfolding to-come member
+  taken x t listed [] n m = absurd (List·Memᴰ·not-nil m)
+  taken x t listed (b ∷ bs) n m = go (List·Memᴰ·cases-cons m) (λ k. taken x t listed bs n k)
+    where
+      go : (row x t ≡ b) ⊎ List·Memᴰ (row x t) bs → (List·Memᴰ (row x t) bs → to-come has (x ∷ listed) bs + has (row x t) ≤ to-come has listed bs)
+          → to-come has (x ∷ listed) (b ∷ bs) + has (row x t) ≤ to-come has listed (b ∷ bs)
+      go (inl e) below =
+          subst (λ (y : Binding). to-come has (x ∷ listed) (y ∷ bs) + has (row x t) ≤ to-come has listed (y ∷ bs)) e
+          (let r = fewer x listed bs in rw (eq-eqb x x refl, n, member, to-come) (omega arith))
+      go (inr k) below =
+          let r = below k in
+          by-bool (eqb (b .slot) x)
+          (λ e. by-bool (member (b .slot) listed) (λ g. rw (e, g, member, to-come) r) (λ g. rw (e, g, member, to-come) (omega arith)))
+          (λ e. by-bool (member (b .slot) listed) (λ g. rw (e, g, member, to-come) r) (λ g. rw (e, g, member, to-come) (omega arith)))
+
+-- how many variables a row has
+abbrev variables-of : Binding → ℕ
+variables-of b = length (variables (b .type))
 
 pub inside-taken : (bs : List Binding) (x : ℕ) (listed : List ℕ) → member x listed ≡ false → unlisted (x ∷ listed) bs + length (inside bs x) ≤ unlisted listed bs
 unfolding inside
 inside-taken bs x listed n =
     by-option (lookup bs x)
-    (λ e. rw (e, inside) (let r = fewer x listed bs in omega arith))
-    (λ t e. rw (e, inside) (taken x t listed bs n (bound-row bs x t e)))
+    (λ e. rw (e, inside) (let r = fewer variables-of x listed bs in omega arith))
+    (λ t e. rw (e, inside) (taken variables-of x t listed bs n (bound-row bs x t e)))
 
 mutual
   unfolding variables size
@@ -85,7 +92,7 @@ mutual
   twice-variables-all (cons t ts) = omega (arith, length-append (variables t) (variables-all ts), twice-variables t, twice-variables-all ts)
 
 unlisted-sized : (bs : List Binding) → 2 * unlisted [] bs ≤ size-of-log bs
-unfolding unlisted member size-of-log
+unfolding to-come member size-of-log
 unlisted-sized [] = omega arith
 unlisted-sized (b ∷ bs) = omega (arith, twice-variables (b .type), unlisted-sized bs)
 

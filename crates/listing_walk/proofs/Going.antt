@@ -13,7 +13,7 @@ use Rattle.unifier_nodes.proofs.Frames.{good-same}
 use Rattle.run_definition.specs.Tables.{written-binding}
 use Rattle.run_layout.specs.declared.Layout.{Layout}
 use Rattle.listing_definition.specs.Listing.{inside, follow, listed-from}
-use Rattle.listing_definition.specs.Turns.{unlisted}
+use Rattle.listing_definition.specs.Turns.{to-come, unlisted}
 use Rattle.listing_definition.proofs.Unlisted.{unlisted-short}
 use Rattle.listing_definition.proofs.Turns.{follow-done, follow-skip, follow-list, next-fewer, follow-more}
 use Rattle.listing_walk.specs.Walk.{steps-of, order-at, Places, Keeps, Stacked, stacked-none, stacked-some, Ordered, Seeks, Seek-asked, Stands-for, Walking, List-asked, Lists-one, Lists-asked, Lists-all}
@@ -60,7 +60,7 @@ module _ {w₀ : List ℕ} {lay : Layout} {slot : ℕ} (A : Lists-asked w₀ lay
 
   -- what the first call asks
   pub first-asked : List-asked w₀ lay 0 slot (lay .stack)
-  unfolding member unlisted
+  unfolding member to-come
   first-asked =
       record {
         bs = A .bs;

@@ -218,8 +218,7 @@ module _ {w₀ : List ℕ} {lo last a c from : ℕ} where
         let e = stacked-length (so-far .stacked) in
         let d = so-far .len in
         let x = length-append (variables t) (flatMap variables (drop k (P .asked .ts))) in
-        let y = ap length (next-variables (P .asked .ts) k some (omega arith)) in
-        (
+        let y = ap length (next-variables (P .asked .ts) k some (omega arith)) in (
           omega (arith, o .inside, P .asked .room),
           rw same-node (o .below),
           record { t = t; rep = next-rep (o .rep); room = omega (arith, left-few (P .asked .ts) (k - 1), P .asked .room); small = omega (arith, P .asked .small) },

@@ -10,8 +10,9 @@ use lib.ListN.{length, set, length-set, length-append}
 use Rattle.image.specs.Ty.{Ty, variables}
 use Rattle.image.specs.Nesting.{member}
 use Rattle.unifier_definition.specs.Log.{Binding, lookup}
-use Rattle.unifier_nodes.specs.Work.{at, Rep, Bound, unbound, bound, Good}
+use Rattle.unifier_nodes.specs.Work.{at, Rep, Bound, bound}
 use Rattle.unifier_nodes.proofs.Frames.{rep-same}
+use Rattle.unifier_nodes.proofs.Getting.{is-free, is-bound}
 use Rattle.run_layout.specs.declared.Layout.{Layout}
 use Rattle.listing_definition.specs.Listing.{inside}
 use Rattle.listing_definition.specs.Turns.{unlisted}
@@ -21,15 +22,7 @@ use Rattle.listing_walk.proofs.Stacks.{stacked-length, stacked-same, st
 use Rattle.listing_walk.proofs.Marks.{Free, mark-free, order-free, listed-words, other-word, ordered-same, ordered-more}
 use Rattle.listing_walk.proofs.Pushing.{pushed-none, rep-low-variables}
 
--- nothing is bound to a word that is 0
-bound-zero : {w : List ℕ} {lo top v : ℕ} {o : Option Ty} → Bound w lo top v o → v ≡ 0 → o ≡ none
-bound-zero (unbound e) z = refl
-bound-zero (bound e r) z = absurd (omega arith)
-
-bound-node : {w : List ℕ} {lo top v : ℕ} {o : Option Ty} → Bound w lo top v o → (v ≡ 0 → ⊥) → (t : Ty) × (o ≡ some t) × Rep w lo top (v - 1) t
-bound-node (unbound e) z = absurd (z e)
-bound-node {w} {lo} {top} {v} (bound {m = m} {t = t} e r) z = (t, refl, subst (λ (n : ℕ). Rep w lo top n t) (omega arith) r)
-
+-- what is inside, by the binding
 inside-none : (bs : List Binding) (x : ℕ) → lookup bs x ≡ none → inside bs x ≡ []
 unfolding inside
 inside-none bs x e = rw (e, inside)
@@ -88,11 +81,11 @@ module _ {w : List ℕ} {lay : Layout} {n x end : ℕ} (a : List-asked w lay n x
 
   -- an unbound variable
   pub inside-unbound : at marked x ≡ 0 → inside (a .bs) x ≡ []
-  inside-unbound z = inside-none (a .bs) x (bound-zero binding (sym binding-word ∙ z))
+  inside-unbound z = inside-none (a .bs) x (is-free (sym binding-word ∙ z) binding)
 
   module _ (z : at marked x ≡ 0 → ⊥) where
     node : (t : Ty) × (lookup (a .bs) x ≡ some t) × Rep w (lay .lo) (a .stands .top) (at w x - 1) t
-    node = bound-node binding (λ e. z (binding-word ∙ e))
+    node = is-bound (λ e. z (binding-word ∙ e)) binding
 
     inside-bound : inside (a .bs) x ≡ variables (node .0)
     inside-bound = inside-some (a .bs) x (node .0) (node .1)

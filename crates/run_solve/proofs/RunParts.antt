@@ -10,17 +10,17 @@ use Rattle.image.specs.Ty.{Ty}
 use Rattle.image.specs.Image.{outermost}
 use Rattle.image.specs.Program.{Program, program, from-outermost}
 use Rattle.unifier_definition.specs.Log.{Log, Binding, lookup}
-use Rattle.unifier_definition.specs.Outcome.{done, refused, Refusal, number-of, and-then}
+use Rattle.unifier_definition.specs.Outcome.{Outcome, done, refused, Refusal, number-of, and-then}
 use Rattle.unifier_definition.specs.Unify.{unify-all}
 use Rattle.unifier_properties.specs.Lookup.{registry-of}
 use Rattle.unifier_nodes.specs.Work.{at, Good, unbound}
 use Rattle.run_definition.specs.Generate.{generate}
 use Rattle.run_generate.specs.Generating.{generate-for}
 use Rattle.run_definition.specs.Visits.{visits, resolve-identifiers}
-use Rattle.run_definition.specs.Tables.{made-types, tables-of}
+use Rattle.run_definition.specs.Tables.{made-types, binding-rows, tables-of}
 use Rattle.unifier_definition.specs.Counts.{Counts, no-lookups, count-lookups}
 use Rattle.unifier_definition.proofs.Outcomes.{by-bool}
-use Rattle.run_definition.specs.Infer.{registry, infer-types, refusal, output-of, with-tables}
+use Rattle.run_definition.specs.Infer.{Final, registry, infer-types, refusal, output-of, with-tables}
 
 module _ (p : Program) (budget : ℕ) where
   -- the output where the equations are refused
@@ -56,6 +56,20 @@ module _ (lent steps : ℕ) (counts : Counts) (types : List Ty) (rows : List Bin
   pub fit-slots : length (tables-of types rows) ≤ lent → with-tables lent steps counts types rows .answer .slots ≡ length types
   unfolding with-tables
   fit-slots h = rw (le-leb (length (tables-of types rows)) lent h, with-tables)
+
+  -- none are where they have not
+  too-long : (with-tables lent steps counts types rows .answer .number ≡ 0 → ⊥) → with-tables lent steps counts types rows .tables ≡ []
+  unfolding with-tables refusal
+  too-long h =
+      by-bool (leb (length (tables-of types rows)) lent)
+      (λ e. absurd (h (rw (e, with-tables))))
+      (λ e. rw (e, with-tables))
+
+-- a refusal puts out no tables
+pub no-tables : (budget lent : ℕ) (o : Outcome Final) → (output-of budget lent o .answer .number ≡ 0 → ⊥) → output-of budget lent o .tables ≡ []
+unfolding output-of refusal
+no-tables budget lent (refused r s σ) h = refl
+no-tables budget lent (done f s) h = too-long lent (budget - s) (f .counts) (f .types) (binding-rows (f .log) (length (f .types))) h
 
 -- words that are all 0 stand for no binding
 pub good-none : (w : List ℕ) (lo top : ℕ) → lo ≤ top → ((k : ℕ) → k < lo → at w k ≡ 0) → Good w lo top []

@@ -1,8 +1,8 @@
--- A run that `solve` answers with 0, in the definition's terms: its tables, its bindings, and what `write` asks and leaves. Assumes nothing.
+-- What `solve` answers, in the definition's terms: no tables in a refusal; else the tables, the bindings, and what `write` asks and leaves. Assumes nothing.
 use Prim.Native.Nat.{ℕ, _-_, _≤_}
 use native.Mathlib.Omega.{arith}
 use mathlib.Core.Path.{_≡_, sym, ap, ap₂, _∙_}
-use mathlib.Core.List.{List}
+use mathlib.Core.List.{List, []}
 use lib.ListN.{length}
 use lib.Seq.{sets-eq}
 use Rattle.image.specs.Ty.{Ty}
@@ -18,7 +18,12 @@ use Rattle.run_tables.specs.Writing.{Write-asked, Writes}
 use Rattle.run_tables.proofs.Finishing.{types-many}
 use Rattle.run_solve.specs.Solve.{Stands-solved, Solves}
 use Rattle.run_solve.specs.declared.Solved.{Solved}
-use Rattle.run_solve.proofs.RunParts.{tables-fit, fit-tables}
+use Rattle.run_solve.proofs.RunParts.{tables-fit, fit-tables, no-tables}
+
+-- a run that is refused has no tables
+pub stopped-tables : {img bytes w w′ : List ℕ} {budget lent : ℕ} {r : Solved} → Solves img bytes budget w w′ lent r → (r .answer .number ≡ 0 → ⊥) → output-of budget lent (infer-types (program img bytes) budget) .tables ≡ []
+unfolding answer-of
+stopped-tables {img} {bytes} {budget = budget} {lent = lent} S h = no-tables budget lent (infer-types (program img bytes) budget) (λ e. h (ap (λ a. a .number) (S .answers) ∙ e))
 
 module _ {img bytes w w′ : List ℕ} {budget lent : ℕ} {r : Solved} (S : Solves img bytes budget w w′ lent r) (z : r .answer .number ≡ 0) where
   -- the final state

@@ -30,6 +30,7 @@ type Row<'a> = (Slot, Option<Inferred<'a>>);
 /// A variable is called by the text that the host gave its slot, else by the name of the slot's identifier, else by the
 /// slot's number; other names of the same slot are said once. The number stands beside a name that several slots of the
 /// listing have. However long the listing is, the text is printed in time that grows with it, and nothing recurses.
+#[derive(Clone, Debug)]
 pub struct Explanation<'a> {
     rows: Vec<Row<'a>>,
     /// The row of each slot.

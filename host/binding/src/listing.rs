@@ -47,7 +47,8 @@ impl Listing {
         ListingRows::new(&self.words)
     }
 
-    /// Why the slot has its type, for people: see `Explanation`. Tables and image are those of the same run.
+    /// Why the slot has its type, for people to read. Tables and image are those of the same run; with others this may
+    /// panic.
     pub fn explain<'a>(&'a self, tables: &'a Tables, image: &'a Image) -> Explanation<'a> {
         Explanation::new(self, tables, image)
     }

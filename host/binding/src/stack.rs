@@ -20,12 +20,12 @@ const FUNCTION: usize = 480;
 const STEP: usize = 224 / 2;
 /// The levels of that one type, at most: its 4,096 words, two a level, and a variable.
 const TYPE: usize = 2_049 * STEP;
-/// `infer_batch` 176, or `infer_types` 112; what both run a screen by 416, `instruction_types` 640, `property` 352,
-/// `bind_phi` 224, `bind_checked` 176, rounded up: with the type 57 pages.
+/// `infer_batch` 176 or `infer_types` 112, and what both run a screen by 288; or `infer_listing` 304; `solve` 384,
+/// `instruction_types` 640, `property` 352, `bind_phi` 224, `bind_checked` 176, rounded up: with the type 57 pages.
 const RUN: usize = (57 << 12) - TYPE;
 
 /// The stack bytes that a call of the library takes at most: 10 MiB with the longest image and the whole budget. A list
-/// takes the most that one of its screens does.
+/// takes the most that one of its screens does, a listing no more than the run.
 pub fn stack_bytes(image: &[u32], budget: u32) -> usize {
     let functions = image.get(Table::Functions.count_at()).map_or(0, |&count| count as usize);
     // a function in which another stands has 13 words that are in no other

@@ -379,6 +379,7 @@ fn deep_listings_are_explained() {
                 let rows = listing.rows().count();
                 // one more where the image gives the type
                 assert!([1, 2].contains(&(text.lines().count() - rows)), "{}", case.name);
+                assert!(text.lines().all(|line| !line.starts_with(&" ".repeat(41))), "{}", case.name);
                 assert!(text.len() < 100 * (rows + 40) + 30 * listing.words().len(), "{}", case.name);
                 longest = longest.max(rows);
             }

@@ -34,12 +34,13 @@ const LEAST_TIME: Duration = Duration::from_micros(500);
 const NUMBERS: [u32; 17] = [0, 1, 2, 3, 4, 5, 6, 7, 8, 9, 10, 11, 12, 13, 14, SLOT, LISTING_WORDS];
 
 /// What work words, table words and listing words hold before a call: the first of each, and by how much each is more
-/// than the one before it. The second has such work words as a listing might leave.
+/// than the one before it. Small work words might be taken for what a listing leaves there.
 type Held = [(u32, u32); 3];
-const HELD: [Held; 3] = [
+const HELD: [Held; 4] = [
     [(0xA5A5_A5A5, 0), (0x5A5A_5A5A, 0), (0xC3C3_C3C3, 0)],
-    [(0, 1), (u32::MAX, 0), (0, 0)],
-    [(u32::MAX, 0), (0, 3), (u32::MAX, 0)],
+    [(0, 0), (u32::MAX, 0), (0, 0)],
+    [(1, 0), (0, 3), (u32::MAX, 0)],
+    [(0, 1), (0, 0), (1, 0)],
 ];
 
 fn held_at((first, by): (u32, u32), at: usize) -> u32 {

@@ -124,6 +124,23 @@ fn an_identifier_of_another_builder_has_no_slot() {
 }
 
 #[test]
+fn identifiers_have_their_slots_and_names() {
+    let mut image = Builder::new();
+    let (unnamed, named, described) = (image.identifier(), image.named("x"), image.described("x + 1"));
+    let (slot, name) = (image.slot_of(named), image.name(b"\xFF"));
+    let again = image.identifier_of(slot, Some(name));
+    let slots = [unnamed, named, described, again].map(|one| image.slot_of(one));
+    let screen = image.function();
+    image.body(screen, Body::other(unnamed));
+    let image = image.finish().expect("a body");
+    assert_eq!([unnamed, named, described, again].map(|one| image.slot_of(one)), slots);
+    let names: [Option<&[u8]>; 4] = [None, Some(b"x"), None, Some(b"\xFF")];
+    assert!(image.identifiers().eq(slots.into_iter().zip(names)));
+    assert_eq!(slots.map(|slot| image.slot_names.get(slot)), [None, None, Some("x + 1"), None]);
+    assert_eq!(image.slot_names.iter().collect::<Vec<_>>(), [(slots[2], "x + 1")]);
+}
+
+#[test]
 fn arguments_are_places_and_spreads() {
     let built = with(|_, block, [x, y, z]| _ = block.call(x, y, &[Argument::Place(z), Argument::Spread(x)]));
     let mut image = parts::Image::new();
