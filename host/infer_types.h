@@ -26,7 +26,7 @@
 extern "C" {
 #endif
 
-/* No name, no shape, no type, or a property that is a number. */
+/* No name, no shape, no type, a property that is a number, or in a listing no binding. */
 #define INFER_TYPES_NONE UINT32_C(4294967295)
 
 /* The most image words, name bytes and steps of a budget. */

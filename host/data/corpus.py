@@ -26,7 +26,6 @@ LONGEST_LOOKUPS = 2_000         # words, and name bytes; longer inputs are those
 LIST_ROW, ANSWER_ROW, MOST_ROWS = 5, 9, 256
 LENT = "work_len", "table_len", "answer_len"
 LONGEST_LISTED = 900            # words of an image that a listing is asked of, but for zeros at its end
-MOST_STEPS = 20_000             # and of its steps
 HERE = os.path.dirname(os.path.abspath(__file__))
 
 
@@ -466,11 +465,6 @@ def calls_record(run, calls):
     return out, numbers
 
 
-def is_in_function(row):
-    """A row has a Function in a Function."""
-    return any(row[at] in (5, 6) and row[at + 2] in (5, 6) for at in range(1, len(row) - 3))
-
-
 def sort_of_listing(slot, image_slots, bindings):
     """How many rows a listing has, by powers of two, and what is in them."""
     from requests.base import variables
@@ -480,8 +474,8 @@ def sort_of_listing(slot, image_slots, bindings):
     return (len(rows).bit_length(), slot >= image_slots, slot in bindings,
             any(row[1] == 0 for row in rows),                               # a chain
             sum(map(len, inside)) > len({one for row in inside for one in row}),
-            any(row[1] == 7 and len(row) > 2 and len(set(one)) < len(one) for row, one in zip(rows, inside)),
-            any(map(is_in_function, rows)))
+            any(len(set(one)) < len(one) for one in inside),                # a variable twice in a Phi
+            any(row[1] in (5, 6) and row[3] in (5, 6) for row in rows))     # a Function that returns one
 
 
 def finished(run):
@@ -581,10 +575,8 @@ def listings(generate, tries, each):
             continue
         done = finished(run)
         if done is None:
-            answer = listed(run, chosen or 0, MOST_TABLES, MOST_TABLES)[0]
-            sort, calls = answer.number, [(chosen or 0, 0, 0), (chosen or 0, 100, 100)]
-            if answer.steps > MOST_STEPS:
-                continue
+            sort = listed(run, chosen or 0, MOST_TABLES, MOST_TABLES)[0].number
+            calls = [(chosen or 0, 0, 0), (chosen or 0, 100, 100)]
         else:
             if rng.random() < 0.5:
                 run = with_least_steps(run)

@@ -147,8 +147,7 @@ fn read(file: &[u8]) -> Vec<Expected> {
 
 /// A file of the folder.
 pub fn file(folder: &str, name: &str) -> Vec<u8> {
-    let path = format!("{folder}/{name}");
-    std::fs::read(&path).unwrap_or_else(|error| panic!("{path}: {error}"))
+    corpus::read_file(&format!("{folder}/{name}"))
 }
 
 /// The cases with the answers that a file of the folder has for them.

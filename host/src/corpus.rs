@@ -142,6 +142,17 @@ pub fn push_padded_bytes(out: &mut Vec<u8>, bytes: &[u8]) {
     push_bytes(out, without_zeros(bytes));
 }
 
+pub fn read_file(path: &str) -> Vec<u8> {
+    std::fs::read(path).unwrap_or_else(|error| panic!("{path}: {error}"))
+}
+
+/// A file with a record for each case.
+pub fn write_file<T>(path: &str, cases: &[T], write: fn(&mut Vec<u8>, &T)) {
+    let mut file = vec![];
+    cases.iter().for_each(|case| write(&mut file, case));
+    std::fs::write(path, file).unwrap_or_else(|error| panic!("{path}: {error}"));
+}
+
 /// Adds a case as a record 0.
 pub fn write(out: &mut Vec<u8>, case: &Case) {
     let Input { image, names, budget, work } = &case.input;

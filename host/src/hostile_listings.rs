@@ -23,8 +23,10 @@ pub fn hostile() -> Vec<(Case, u32)> {
         let name = format!("{variables} variables, each with the next {window} inside");
         add(name, shared(variables, 1, window));
     }
+    add("variables in a chain".into(), chain(8_100, 1_600));
     add("variables in functions, in a chain".into(), functions(4_500));
     add("phis of 2,000 variables each".into(), phis(6));
+    add("a function that returns a phi of 2,000 variables".into(), in_function());
     add("calls, whose made variables are in a chain".into(), calls(3_300));
     add("a binding of 15,000 phis in each other".into(), deep_binding(10, 1_500));
     let (input, slot) = slots_over_types(6);
@@ -64,6 +66,13 @@ fn shared(variables: u32, times: u32, window: u32) -> (Image, u32) {
     (deep.finish(), all[0])
 }
 
+/// Each variable is bound to the next, by so many phis and so many loads.
+fn chain(phis: u32, loads: u32) -> (Image, u32) {
+    let mut deep = Deep::new();
+    let (first, _) = deep.chain(phis, loads);
+    (deep.finish(), first)
+}
+
 /// Each variable is bound to a function that returns the next.
 fn functions(variables: u32) -> (Image, u32) {
     let mut deep = Deep::new();
@@ -100,6 +109,16 @@ fn many(deep: &mut Deep) -> u32 {
         operands.push(deep.image.var(slot));
     }
     deep.image.phi(&operands)
+}
+
+/// The steps are hardly more than the rows.
+fn in_function() -> (Image, u32) {
+    let mut deep = Deep::new();
+    let slot = deep.variable();
+    let phi = many(&mut deep);
+    let function = deep.image.function(NONE, phi);
+    deep.load(slot, function);
+    (deep.finish(), slot)
 }
 
 /// Each call is of what the call before it gave.

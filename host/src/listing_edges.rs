@@ -58,6 +58,7 @@ pub fn edges() -> Vec<ListingCase> {
     words(&mut cases);
     chains(&mut cases);
     orders(&mut cases);
+    nested(&mut cases);
     made(&mut cases);
     slots_outside(&mut cases);
     refused(&mut cases);
@@ -140,12 +141,6 @@ fn chains(cases: &mut Cases) {
 }
 
 fn orders(cases: &mut Cases) {
-    let nested = bound(5, |image| {
-        let mut of = function(image, 2);
-        of = image.constructor(3, of);
-        vec![(1, image.function(NONE, of)), (2, function(image, 4))]
-    });
-    cases.order("functions in functions", &nested, &[1, 2, 4]);
     let repeated = bound(4, |image| vec![(1, phi(image, &[2, 3, 2, 3, 3, 2]))]);
     cases.order("variables of a phi more than once", &repeated, &[1, 2, 3]);
     let numbers = bound(6, |image| vec![(1, phi(image, &[4, 2, 5, 3]))]);
@@ -162,6 +157,22 @@ fn orders(cases: &mut Cases) {
     cases.order("each to its end, from within", &to_end, &[3, 6]);
     let later = bound(5, |image| vec![(1, phi(image, &[2, 3])), (2, phi(image, &[3, 4]))]);
     cases.order("one that is inside an earlier one", &later, &[1, 2, 3, 4]);
+    let diamond = bound(7, |image| {
+        let four = phi(image, &[5, 6, 5]);
+        vec![(1, phi(image, &[2, 3])), (2, function(image, 4)), (3, function(image, 4)), (4, four)]
+    });
+    cases.order("two ways to one variable", &diamond, &[1, 2, 4, 5, 6, 3]);
+    cases.order("two ways to one variable, from the second", &diamond, &[3, 4, 5, 6]);
+}
+
+/// Types in types.
+fn nested(cases: &mut Cases) {
+    let nested = bound(5, |image| {
+        let mut of = function(image, 2);
+        of = image.constructor(3, of);
+        vec![(1, image.function(NONE, of)), (2, function(image, 4))]
+    });
+    cases.order("functions in functions", &nested, &[1, 2, 4]);
     let inside = bound(6, |image| {
         let returned = function(image, 3);
         let left = image.var(2);
@@ -172,12 +183,6 @@ fn orders(cases: &mut Cases) {
         vec![(1, image.phi(&[left, between, right]))]
     });
     cases.order("phis and functions inside", &inside, &[1, 2, 3, 4, 5]);
-    let diamond = bound(7, |image| {
-        let four = phi(image, &[5, 6, 5]);
-        vec![(1, phi(image, &[2, 3])), (2, function(image, 4)), (3, function(image, 4)), (4, four)]
-    });
-    cases.order("two ways to one variable", &diamond, &[1, 2, 4, 5, 6, 3]);
-    cases.order("two ways to one variable, from the second", &diamond, &[3, 4, 5, 6]);
 }
 
 /// Slots that the run makes: one for a call, whose callee may have been bound before.

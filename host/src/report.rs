@@ -82,6 +82,13 @@ pub fn start(case: &dyn Tested) {
     unsafe { alarm(MOST_SECONDS) };
 }
 
+/// No call for a case is under way.
+pub fn end() {
+    *CURRENT.lock().expect("no other holder") = None;
+    // SAFETY: no signal is asked for any more.
+    unsafe { alarm(0) };
+}
+
 /// Prints the case, leaves it in a file and ends the program.
 pub fn fail(what: &str, case: &dyn Tested) -> ! {
     println!("FAILED: {}: {what}", case.name());

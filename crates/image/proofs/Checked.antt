@@ -39,14 +39,26 @@ module _ (img : List ℕ) (e : tables-fit img ≡ true) where
   unfolding table-fits inside
   table-inside t = leb-true _ _ (right (leb (header-words img) (offset t img)) _ (fits t))
 
--- 1 and 5: every table lies in the image
-pub laid : (img : List ℕ) → 20 ≤ length img → length img ≤ 65536 → header-sound img ≡ true → Laid img
+  table-after : (t : Table) → 20 ≤ offset t img
+  unfolding table-fits header-words
+  table-after t = leb-true _ _ (left (leb 20 (offset t img)) _ (fits t))
+
+-- 5: the tables of a header that passed
+header-tables : (img : List ℕ) → header-sound img ≡ true → tables-fit img ≡ true
 unfolding header-sound
-laid img long short e =
+header-tables img e =
     let o = right (eqb (version img) 1) _ e in
     let f = right (leb (word img 1) (most-options img)) _ o in
     let w = right (ltb 0 (count Functions img)) _ f in
-    record { long = long; short = short; table = table-inside img (right (eqb (word img 19) (length img)) _ w) }
+    right (eqb (word img 19) (length img)) _ w
+
+-- 1 and 5: every table lies in the image
+pub laid : (img : List ℕ) → 20 ≤ length img → length img ≤ 65536 → header-sound img ≡ true → Laid img
+laid img long short e = record { long = long; short = short; table = table-inside img (header-tables img e) }
+
+-- 5: after the header
+pub laid-after : (img : List ℕ) → header-sound img ≡ true → (t : Table) → 20 ≤ offset t img
+laid-after img e = table-after img (header-tables img e)
 
 -- 6: a table that passes keeps its rule at every row
 pub row-sound : (img : List ℕ) (name-bytes : ℕ) (t : Table) → table-sound img name-bytes t ≡ true → (n : ℕ) → n < count t img → reference-sound t img name-bytes n ≡ true

@@ -3,6 +3,7 @@ ghost use mathlib.Core.Path.{_≡_};
 ghost use Rattle.image.specs.Check.{check as check-of};
 ghost use Rattle.infer.specs.Entry.{Infers};
 ghost use Rattle.batch.specs.Entry.{Batches};
+ghost use Rattle.listing.specs.Entry.{Lists};
 use listing::ListingAnswer;
 use run_answer::Answer;
 
@@ -53,6 +54,8 @@ pub extern "C" fn infer_listing(
     tables: &mut [u32],
     slot: u32,
     listing: &mut [u32],
-) -> ListingAnswer {
+) -> ListingAnswer
+    ensures { λ r. ⌜ Lists (now (image .entry)) (now (names .entry)) budget (now (work .entry)) (now (work .exit)) (now (tables .entry)) (now (tables .exit)) slot (now (listing .entry)) (now (listing .exit)) r ⌝ }
+{
     listing::infer_listing(image, names, budget, work, tables, slot, listing)
 }

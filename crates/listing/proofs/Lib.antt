@@ -1,1 +1,4 @@
 pub mod RowWords
+pub mod AfterRun
+pub mod Answers
+pub mod Entries

@@ -7,7 +7,7 @@ use mathlib.Core.Path.{_≡_, refl, sym, ap, subst, _∙_}
 use mathlib.Core.Option.{none, some}
 use mathlib.Core.List.{List, [], _∷_, _++_, flatMap}
 use lib.ListN.{length, getD, drop, drop-of-length-le}
-use lib.Seq.{drop-cons}
+use lib.Seq.{drop-cons, length-sets}
 use Rattle.image.specs.Ty.{NONE, Ty, written}
 use Rattle.unifier_definition.specs.Log.{Binding, lookup}
 use Rattle.unifier_nodes.specs.Work.{at, Rep, Good}
@@ -30,6 +30,11 @@ module _ {S : Type 0} {k : Sink S} {w : List ℕ} {lo x : ℕ} {s : S} (A : Asks
   pub row-inside : x < length w
   row-inside = let l = A .low in omega (arith, A .good .nodes)
 
+  -- every row starts with its slot
+  pub room-slot : Lawful k → k .room s 1
+  unfolding listing-row
+  room-slot law = room-first law (x ∷ []) (elim (lookup (A .bs) x) [ none ↦ NONE ∷ [] | some t ↦ written t ]) refl (A .room)
+
   -- an unbound variable
   module _ (z : at w x ≡ 0) where
     shown-unbound : (bs : List Binding) → Good w lo (length w) bs → listing-row bs x ≡ x ∷ NONE ∷ []
@@ -46,14 +51,15 @@ module _ {S : Type 0} {k : Sink S} {w : List ℕ} {lo x : ℕ} {s : S} (A : Asks
     shown-bound : (bs : List Binding) → Good w lo (length w) bs → (t : Ty) × (listing-row bs x ≡ (x ∷ []) ++ written t) × Rep w lo (length w) (at w x - 1) t
     shown-bound bs g = let q = is-bound z (g .binds x (A .low)) in (q .0, row-bound bs x (q .0) (q .1), q .2)
 
-    pub room-bound : k .room s 1
-    room-bound = let q = shown-bound (A .bs) (A .good) in room-first law (x ∷ []) (written (q .0)) (q .1) (A .room)
-
     pub asks-type : {s₁ : S} → s₁ ≡ k .emit s (x ∷ []) → Asks k w lo (at w x - 1) s₁
     asks-type e = let q = shown-bound (A .bs) (A .good) in record { t = q .0; rep = q .2; room = room-second law (x ∷ []) (written (q .0)) (q .1) e (A .room) }
 
     pub emits-bound : {s₁ s′ : S} → s₁ ≡ k .emit s (x ∷ []) → Emits k w lo (at w x - 1) s₁ s′ → Emits-row k w lo x s s′
     emits-bound e E = record { is = λ bs g. let q = shown-bound bs g in emit-both law (x ∷ []) (written (q .0)) (q .1) e (E .is (q .0) (q .2)) }
+
+-- the words keep their number
+pub row-length : {w t t′ : List ℕ} {lo x at next : ℕ} → Emits-row writing w lo x (table t at) (table t′ next) → Asks-row writing w lo x (table t at) → length t′ ≡ length t
+row-length {t = t} {x = x} {at = from} E A = ap (λ (s : Target). length (s .words)) (E .is (A .bs) (A .good)) ∙ length-sets t from (listing-row (A .bs) x)
 
 -- the next row
 next-row : (bs : List Binding) (xs : List ℕ) (i : ℕ) → i < length xs → flatMap (listing-row bs) (drop i xs) ≡ listing-row bs (getD xs i 0) ++ flatMap (listing-row bs) (drop (i + 1) xs)

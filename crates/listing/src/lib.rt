@@ -4,7 +4,7 @@ ghost use Rattle.run_tables.specs.Writing.{counting, writing, table};
 ghost use Rattle.run_solve.specs.Solve.{Run-asked};
 ghost use Rattle.listing.specs.Entry.{Lists};
 ghost use Rattle.listing.specs.Rows.{Asks-row, Emits-row, Asks-listing, Emits-listing, Writes-listing, Runs-listing};
-ghost use Rattle.run_definition.specs.More.{refused-more};
+ghost use Rattle.run_definition.specs.Infer.{refusal as refusal-of};
 ghost use Rattle.run_answer.specs.Lent.{answer-of};
 use image::NONE;
 use image::WORK_WORDS_EACH;
@@ -79,7 +79,7 @@ fn write_listing(w: &[u32], lo: u32, order: u32, n: u32, t: &mut [u32])
 
 // Refused by a test of the listing.
 fn refused(number: u32, steps: u32, listing_words: u32) -> ListingAnswer
-    ensures { λ r. ⌜ (answer-of (r .answer) ≡ refused-more number steps «listing_words» .answer) × (r .«listing_words» ≡ «listing_words») ⌝ }
+    ensures { λ r. ⌜ (answer-of (r .answer) ≡ refusal-of number steps 0 .answer) × (r .«listing_words» ≡ «listing_words») ⌝ }
 {
     ListingAnswer {
         answer: refusal(number, steps, 0),

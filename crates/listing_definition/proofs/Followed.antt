@@ -10,16 +10,14 @@ use Rattle.image.specs.Ty.{Ty}
 use Rattle.image.specs.Nesting.{member}
 use Rattle.unifier_definition.specs.Log.{Binding, lookup}
 use Rattle.unifier_definition.specs.Leads.{Bindings, Mentions, Leads, leads-now, leads-on}
+use Rattle.unifier_definition.proofs.Acyclic.{leads-trans}
+use Rattle.unifier_definition.proofs.Mentioned.{not-member}
 use Rattle.unifier_definition.proofs.Outcomes.{by-bool, by-option}
 use Rattle.listing_definition.specs.Listing.{inside, follow}
 use Rattle.listing_definition.specs.Exactly.{Led, Once, once-more}
-use Rattle.listing_definition.proofs.Members.{is-member, no-member}
 use Rattle.listing_definition.specs.Turns.{unlisted}
+use Rattle.listing_definition.proofs.Members.{is-member}
 use Rattle.listing_definition.proofs.Turns.{follow-done, follow-skip, follow-list, next-fewer}
-
-leads-trans : {β : Bindings} {x y z : ℕ} → Leads β x y → Leads β y z → Leads β x z
-leads-trans (leads-now e m) l = leads-on e m l
-leads-trans (leads-on e m k) l = leads-on e m (leads-trans k l)
 
 -- what is inside a variable's binding, and what it leads to at once, are the same
 inside-leads : (bs : List Binding) (x y : ℕ) → List·Memᴰ y (inside bs x) → Leads (lookup bs) x y
@@ -104,7 +102,7 @@ follow-ends (suc n) bs slot [] listed l f = rw follow-done f
 follow-ends (suc n) bs slot (x ∷ xs) listed l f =
     by-bool (member x listed)
     (λ e. rw (follow-skip n bs x xs listed e) (follow-ends n bs slot xs listed (omega arith) (skip f (is-member x listed e))))
-    (λ e. rw (follow-list n bs x xs listed e) (follow-ends n bs slot (inside bs x ++ xs) (x ∷ listed) (omega (arith, next-fewer bs x xs listed e)) (list f (no-member x listed e))))
+    (λ e. rw (follow-list n bs x xs listed e) (follow-ends n bs slot (inside bs x ++ xs) (x ∷ listed) (omega (arith, next-fewer bs x xs listed e)) (list f (not-member x listed e))))
 
 ended : {x : ℕ} {xs : List ℕ} → List·Memᴰ x xs ⊎ List·Memᴰ x [] → List·Memᴰ x xs
 ended (inl k) = k

@@ -6,24 +6,16 @@ use mathlib.Core.Logic.{_⊎_, inl, inr}
 use mathlib.Core.List.{List, [], _∷_, reverse, reverseAux, List·Memᴰ, List·Memᴰ·head, List·Memᴰ·tail, List·Memᴰ·not-nil, List·Memᴰ·cases-cons, Memᴰ·cast}
 use native.Mathlib.Omega.{arith}
 use lib.Dec.{eqb}
-use borrow.Author.Tests.{eqb-true, eqb-false}
+use borrow.Author.Tests.{eqb-true}
 use Rattle.image.specs.Nesting.{member}
 use Rattle.unifier_definition.proofs.Outcomes.{by-bool}
 use Rattle.listing_definition.specs.Exactly.{Once, once-none, once-more}
 
--- the test and what it says
+-- what the test finds is there
 pub is-member : (x : ℕ) (xs : List ℕ) → member x xs ≡ true → List·Memᴰ x xs
 unfolding member
 is-member x [] h = absurd (let z : _≡_ {A = ℕ} 0 1 = cc in omega arith)
 is-member x (y ∷ ys) h = by-bool (eqb x y) (λ e. List·Memᴰ·head (eqb-true x y e)) (λ e. List·Memᴰ·tail (is-member x ys (rw (e, member) at h)))
-
-pub no-member : (x : ℕ) (xs : List ℕ) → member x xs ≡ false → List·Memᴰ x xs → ⊥
-unfolding member
-no-member x [] h m = List·Memᴰ·not-nil m
-no-member x (y ∷ ys) h m =
-    by-bool (eqb x y)
-    (λ e. absurd (let q : true ≡ false = rw (e, member) at h in let z : _≡_ {A = ℕ} 0 1 = cc in omega arith))
-    (λ e. elim (List·Memᴰ·cases-cons m) [ inl p ↦ eqb-false x y e p | inr n ↦ no-member x ys (rw (e, member) at h) n ])
 
 -- a list reversed in front of another has what the two have
 of-reversed : (x : ℕ) (xs ys : List ℕ) → List·Memᴰ x (reverseAux xs ys) → List·Memᴰ x xs ⊎ List·Memᴰ x ys

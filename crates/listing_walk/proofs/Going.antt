@@ -255,6 +255,7 @@ module _ {w₀ : List ℕ} {lay : Layout} {slot : ℕ} {w : List ℕ} {end n : �
   pub looping-end : end ≤ lay .stack → Lists-all w₀ w lay slot n
   looping-end l = record {
     keeps = L .keeps;
+    few = λ A. omega (arith, L .going A .walking .room);
     many = λ A. ends-many A (L .going A) l;
     each = λ A. ends-each A (L .going A) l;
     low = λ A. ends-low A (L .going A) l;
@@ -270,6 +271,7 @@ unfolding asked-kept
 lists-all k l =
     record {
       keeps = keeps-more k (l .keeps);
+      few = λ A. l .few (asked-kept k A);
       many = λ A. l .many (asked-kept k A);
       each = λ A. l .each (asked-kept k A);
       low = λ A. l .low (asked-kept k A);

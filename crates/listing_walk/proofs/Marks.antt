@@ -11,9 +11,10 @@ use lib.Seq.{getD-set-same, getD-set-other}
 use borrow.Author.Tests.{ltb-true, ltb-false, eqb-true, eqb-false}
 use Rattle.image.specs.Nesting.{member}
 use Rattle.unifier_definition.proofs.Outcomes.{by-bool}
+use Rattle.unifier_definition.proofs.Mentioned.{not-member}
 use Rattle.unifier_nodes.specs.Work.{at}
 use Rattle.run_layout.specs.declared.Layout.{Layout}
-use Rattle.listing_definition.proofs.Members.{is-member, no-member}
+use Rattle.listing_definition.proofs.Members.{is-member}
 use Rattle.listing_walk.specs.Walk.{steps-of, order-at, mark-at, Places, Stacked, stacked-some, Ordered}
 use Rattle.listing_walk.proofs.Stacks.{stacked-same, stacked-in}
 
@@ -119,7 +120,7 @@ module _ {w : List ℕ} {lay : Layout} {n x : ℕ} {listed : List ℕ} (P : Plac
     old-mark : at listed-words (mark-at lay y) ≡ at w (mark-at lay y)
     old-mark =
         other-word (mark-at lay y)
-        (λ e. no-member x listed new (subst (λ (z : ℕ). List·Memᴰ z listed) (mark-own P y x (o .low y m) l e) m))
+        (λ e. not-member x listed new (subst (λ (z : ℕ). List·Memᴰ z listed) (mark-own P y x (o .low y m) l e) m))
         (mark-order P y n (o .low y m) f)
 
     old-order : at listed-words (order-at lay + at w (mark-at lay y)) ≡ y
@@ -164,5 +165,5 @@ seek-found {w} {lay} x {listed} o l =
     (λ e.
     let q = eqb-true (at w (order-at lay + at w (mark-at lay x))) x e in
     by-bool (member x listed) (λ h. e ∙ sym h)
-    (λ h. absurd (no-member x listed h (subst (λ (y : ℕ). List·Memᴰ y listed) q (stacked-in (order-at lay + at w (mark-at lay x)) (omega arith) (omega arith) (o .order))))))
+    (λ h. absurd (not-member x listed h (subst (λ (y : ℕ). List·Memᴰ y listed) q (stacked-in (order-at lay + at w (mark-at lay x)) (omega arith) (omega arith) (o .order))))))
     (λ e. by-bool (member x listed) (λ h. absurd (eqb-false (at w (order-at lay + at w (mark-at lay x))) x e (listed-marked x o h .1))) (λ h. e ∙ sym h))

@@ -145,6 +145,7 @@ pub record Lists-asked (w : List ℕ) (lay : Layout) (slot : ℕ) : Type 0 where
 -- the contract of `list_variables`: the variables of the definition stand in order
 pub record Lists-all (w w′ : List ℕ) (lay : Layout) (slot r : ℕ) : Type 0 where
   pub keeps : Keeps w w′ lay
+  pub few : Lists-asked w lay slot → r ≤ steps-of lay
   pub many : (a : Lists-asked w lay slot) → r ≡ length (listed-from (a .bs) slot)
   pub each : (a : Lists-asked w lay slot) (i : ℕ) → i < r → at w′ (order-at lay + i) ≡ getD (listed-from (a .bs) slot) i 0
   pub low : (a : Lists-asked w lay slot) (i : ℕ) → i < r → at w′ (order-at lay + i) < lay .lo

@@ -30,7 +30,8 @@ pub leads-unbound : {β : Bindings} {x y : ℕ} → Leads β x y → Unbound β 
 leads-unbound (leads-now e m) f = some-none e f
 leads-unbound (leads-on e m l) f = some-none e f
 
-leads-trans : {β : Bindings} {x y z : ℕ} → Leads β x y → Leads β y z → Leads β x z
+-- one leads to another, which leads further
+pub leads-trans : {β : Bindings} {x y z : ℕ} → Leads β x y → Leads β y z → Leads β x z
 leads-trans (leads-now e m) l = leads-on e m l
 leads-trans (leads-on e m k) l = leads-on e m (leads-trans k l)
 

@@ -105,7 +105,7 @@ module _ {Q : ℕ → Type 0} where
   pub only-later : {t : Ty} {ts : Tys} → Only Q (phi (cons t ts)) → Only Q (phi ts)
   only-later f = record { every = λ x m. f .every x (mentions-later m) }
 
-not-member : (x : ℕ) (xs : List ℕ) → member x xs ≡ false → List·Memᴰ x xs → ⊥
+pub not-member : (x : ℕ) (xs : List ℕ) → member x xs ≡ false → List·Memᴰ x xs → ⊥
 unfolding member
 not-member x [] e m = List·Memᴰ·not-nil m
 not-member x (y ∷ xs) e m =

@@ -150,6 +150,11 @@ impl<'a> Explanation<'a> {
         }
     }
 
+    /// Whether a binding is the listing's only one, and all of it is said in the first line.
+    fn is_in_first_line(&self, binding: Inferred) -> bool {
+        self.rows.len() == 1 && !self.given && binding.nodes().nth(MOST_PARTS).is_none()
+    }
+
     fn write_row(&self, f: &mut fmt::Formatter<'_>, row: usize, depth: usize) -> fmt::Result {
         let (slot, binding) = self.rows[row];
         write!(f, "{:width$}", "", width = 2 * depth.min(MOST_LEVELS))?;
@@ -161,7 +166,7 @@ impl<'a> Explanation<'a> {
         }
         match binding {
             None => f.write_str(" is not known: nothing binds it")?,
-            Some(_) if self.rows.len() == 1 && !self.given => {
+            Some(of) if self.is_in_first_line(of) => {
                 f.write_str(" is known to be that directly: it leads to no other variable")?
             }
             Some(of) => {

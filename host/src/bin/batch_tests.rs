@@ -15,7 +15,7 @@ use host::random::Random;
 use host::report::{fail, if_short, require, row};
 use host::stack::{on_stack, DEFAULT_STACK, STACK, WHOLE_STACK};
 use host::together::{self, Together};
-use host::{answers, deep, hostile, list_edges, lists, report};
+use host::{answers, corpus, deep, hostile, list_edges, lists, report};
 use infer_types::{
     infer_batch_into, infer_types, Refusal, Runner, Screen, ANSWER_ROW, LIMIT, LIST_ROW, MOST_IMAGES,
 };
@@ -307,23 +307,16 @@ fn screen_of(input: &Input) -> Screen<'_> {
 }
 
 fn run_only(path: &str) {
-    let file = std::fs::read(path).unwrap_or_else(|error| panic!("{path}: {error}"));
     let mut tests = Tests::new();
-    lists::read(path, &file).iter().for_each(|case| _ = tests.run(case));
+    lists::read(path, &corpus::read_file(path)).iter().for_each(|case| _ = tests.run(case));
     tests.part("lists");
-}
-
-fn write(path: &str) {
-    let mut file = vec![];
-    list_edges::edges().iter().for_each(|case| lists::write(&mut file, case));
-    std::fs::write(path, file).unwrap_or_else(|error| panic!("{path}: {error}"));
 }
 
 fn main() {
     let arguments: Vec<String> = std::env::args().skip(1).collect();
     report::watch();
     match arguments.iter().map(String::as_str).collect::<Vec<_>>()[..] {
-        ["--write", path] => write(path),
+        ["--write", path] => corpus::write_file(path, &list_edges::edges(), lists::write),
         ["--only", path] => on_stack(WHOLE_STACK, path, run_only),
         [folder] => {
             on_stack(STACK, folder, run_all);

@@ -105,8 +105,7 @@ fn instructions(each: impl FnMut(Case)) {
 
 fn run_corpus(tests: &mut Tests, files: &[String]) {
     for path in files {
-        let file = std::fs::read(path).unwrap_or_else(|error| panic!("{path}: {error}"));
-        for case in corpus::read(path, &file) {
+        for case in corpus::read(path, &corpus::read_file(path)) {
             tests.compare(&case);
         }
     }

@@ -187,17 +187,11 @@ fn compare_safe(case: &Case, result: Result<&Tables, Refusal>, expected: Expecte
     }
 }
 
-/// Writes the deep inputs as a corpus file; the answers in it mean nothing.
-fn write(path: &str) {
-    let mut file = vec![];
-    deep::deep().iter().for_each(|case| corpus::write(&mut file, case));
-    std::fs::write(path, file).unwrap_or_else(|error| panic!("{path}: {error}"));
-}
-
 fn main() {
     let arguments: Vec<String> = std::env::args().skip(1).collect();
     match arguments.iter().map(String::as_str).collect::<Vec<_>>()[..] {
-        ["--write", path] => write(path),
+        // the answers in it mean nothing
+        ["--write", path] => corpus::write_file(path, &deep::deep(), corpus::write),
         [folder] => {
             report::watch();
             on_stack(STACK, folder, run_all);

@@ -14,7 +14,7 @@ use host::listings::{Asked, Lent, ListingCase, LISTING_WORDS, SLOT};
 use host::random::Random;
 use host::report::{fail, require, row};
 use host::stack::{on_stack, STACK, WHOLE_STACK};
-use host::{answers, deep, hostile, hostile_listings, listed, listing_edges, listings, report};
+use host::{answers, corpus, deep, hostile, hostile_listings, listed, listing_edges, listings, report};
 use infer_types::{infer_types_into, LIMIT};
 use std::io::Write;
 use std::ptr;
@@ -89,7 +89,7 @@ impl Tests {
     /// One call; all that it leaves has to be as expected.
     fn run(&mut self, case: &ListingCase, held: Held) {
         let (Input { image, names, budget, work }, asked) = (&*case.input, case.asked);
-        let side = if self.calls % 2 == 0 { Side::End } else { Side::Start };
+        let side = [Side::End, Side::Start][self.calls % 2];
         self.calls += 1;
         let image = self.image.lend_slice(image, side, 0xFF);
         let names = self.names.lend_slice(names, side, 0xFF);
@@ -110,6 +110,7 @@ impl Tests {
         }
         let number = NUMBERS.iter().position(|&number| number == answer.answer.number);
         self.counts[number.expect("a number of a call")] += 1;
+        report::end();
     }
 
     /// The call with the words that stored ones and those made by hand are held to.
@@ -255,7 +256,7 @@ fn run_stored(tests: &mut Tests, folder: &str) {
 
 fn run_edges(tests: &mut Tests) {
     listing_edges::edges().iter().for_each(|case| tests.run_all(case));
-    require_numbers("edges", &tests.part("edges"));
+    require_numbers("calls made by hand", &tests.part("by hand"));
     run_nothing_lent();
 }
 
@@ -276,6 +277,7 @@ fn run_nothing_lent() {
         if left.answer.number != number || left.listing_words != 0 {
             fail(&format!("{left:?}, not {number}, where nothing is lent"), case);
         }
+        report::end();
     }
 }
 
@@ -324,11 +326,13 @@ fn times(tests: &mut Tests, case: &ListingCase, count: usize) -> (Duration, Dura
 
 /// A hostile image and the slot that is listed: the calls, their time, and how many times that of a run it is.
 fn run_one_hostile(tests: &mut Tests, case: &Case, slot: u32, timed: usize) -> (Duration, f64) {
+    report::start(case);
     let run = Run::of(&case.input);
-    let listing = if is_done(&run.answer) { run.listing(slot) } else { vec![] };
-    let asked = Asked { slot, tables: run.answer.table_words as usize, listing: listing.len() };
+    let is_listed = is_done(&run.answer);
+    let words = if is_listed { run.listing(slot).len() } else { 0 };
+    let asked = Asked { slot, tables: run.answer.table_words as usize, listing: words };
     let (input, left) = (Arc::new(case.input.clone()), run.left(asked));
-    match is_done(&run.answer) {
+    match is_listed {
         true => tests.ask_all(&case.name, &input, &run, slot),
         false => tests.ask(&case.name, &input, &run, asked),
     }
@@ -337,25 +341,41 @@ fn run_one_hostile(tests: &mut Tests, case: &Case, slot: u32, timed: usize) -> (
     if time > MOST_TIME {
         fail(&format!("{time:?}"), &one);
     }
+    report::end();
     let ratio = if alone < LEAST_TIME { 0.0 } else { time.as_secs_f64() / alone.as_secs_f64() };
     (time, ratio)
 }
 
-fn run_hostile(tests: &mut Tests, name: &str, cases: &[(Case, u32)], timed: usize) {
+/// Gives the longest time, and the most times that a listing took as long as its run.
+fn run_hostile(tests: &mut Tests, cases: &[(Case, u32)], timed: usize) -> (Duration, f64) {
     let (mut longest, mut most) = (Duration::ZERO, 0.0);
     for (case, slot) in cases {
         let (time, ratio) = run_one_hostile(tests, case, *slot, timed);
         longest = longest.max(time);
         most = f64::max(most, ratio);
     }
-    tests.part(name);
-    println!("  {longest:?} for the longest, at most {most:.2} times as long as infer_types");
+    (longest, most)
 }
 
-/// Long listings have to be done.
+fn run_long(tests: &mut Tests) {
+    let (longest, most) = run_hostile(tests, &long_listings(), TIMES);
+    tests.part("long");
+    println!("  {longest:?} for the longest, {most:.2} times that of infer_types at most");
+}
+
+/// Images that are hard to check, timed once: a listing adds little there.
+fn run_hard(tests: &mut Tests) {
+    let cases: Vec<(Case, u32)> = hostile::hostile().into_iter().map(|case| (case, 0)).collect();
+    let (longest, _) = run_hostile(tests, &cases, 1);
+    tests.part("hostile");
+    println!("  {longest:?} for the longest");
+}
+
+/// Images with long listings, which have to be done.
 fn long_listings() -> Vec<(Case, u32)> {
     let cases = hostile_listings::hostile();
     for (case, slot) in &cases {
+        report::start(case);
         let run = Run::of(&case.input);
         if !is_done(&run.answer) {
             fail(&format!("{:?}", run.answer), case);
@@ -364,6 +384,7 @@ fn long_listings() -> Vec<(Case, u32)> {
         let rows = listed::row_slots(&listing).len();
         println!("  {}: {rows} rows, {} words, {} steps", case.name, listing.len(), run.answer.steps);
     }
+    report::end();
     cases
 }
 
@@ -374,9 +395,8 @@ fn run_all(folder: &str) {
     run_edges(&mut tests);
     run_corpus(&mut tests, folder);
     run_deep(&mut tests, folder, |case| !deep::is_deepest(case));
-    run_hostile(&mut tests, "long", &long_listings(), TIMES);
-    let cases: Vec<(Case, u32)> = hostile::hostile().into_iter().map(|case| (case, 0)).collect();
-    run_hostile(&mut tests, "hostile", &cases, 1);
+    run_long(&mut tests);
+    run_hard(&mut tests);
     println!("{:<10}{}", "all", row(&tests.total));
 }
 
@@ -385,23 +405,16 @@ fn run_deepest(folder: &str) {
 }
 
 fn run_only(path: &str) {
-    let file = std::fs::read(path).unwrap_or_else(|error| panic!("{path}: {error}"));
     let mut tests = Tests::new();
-    listings::read(path, &file).iter().for_each(|case| tests.run_all(case));
+    listings::read(path, &corpus::read_file(path)).iter().for_each(|case| tests.run_all(case));
     tests.part("calls");
-}
-
-fn write(path: &str) {
-    let mut file = vec![];
-    listing_edges::edges().iter().for_each(|case| listings::write(&mut file, case));
-    std::fs::write(path, file).unwrap_or_else(|error| panic!("{path}: {error}"));
 }
 
 fn main() {
     let arguments: Vec<String> = std::env::args().skip(1).collect();
     report::watch();
     match arguments.iter().map(String::as_str).collect::<Vec<_>>()[..] {
-        ["--write", path] => write(path),
+        ["--write", path] => corpus::write_file(path, &listing_edges::edges(), listings::write),
         ["--only", path] => on_stack(WHOLE_STACK, path, run_only),
         [folder] => {
             on_stack(STACK, folder, run_all);
