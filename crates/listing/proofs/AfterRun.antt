@@ -1,7 +1,7 @@
 -- What `solve` leaves is what a listing asks, and stays while it is made. Assumes nothing.
 use Prim.Native.Nat.{ℕ, _+_, _*_, _-_, _^_, _≤_, _<_}
 use native.Mathlib.Omega.{arith}
-use mathlib.Core.Path.{_≡_, refl, sym, ap, subst, _∙_}
+use mathlib.Core.Path.{_≡_, sym, ap, subst, _∙_}
 use mathlib.Core.Option.{Option}
 use mathlib.Core.List.{List, flatMap}
 use lib.ListN.{length}
@@ -26,11 +26,11 @@ use Rattle.run_walk.proofs.Composing.{Layout-at, layout-at}
 use Rattle.run_solve.specs.Solve.{Run-asked, Solves}
 use Rattle.run_solve.specs.declared.Solved.{Solved}
 use Rattle.run_solve.proofs.SolvedLaws.{solved, slot-bindings, Stand}
-use Rattle.listing_definition.specs.Listing.{listed-from, listing-row, listing-of}
-use Rattle.listing_definition.proofs.Sizes.{listing-short}
-use Rattle.listing_walk.specs.Walk.{steps-of, order-at, Places, Keeps, Stands-for, Lists-asked, Lists-all}
-use Rattle.run_tables.specs.Writing.{Sink, counting, writing, table}
-use Rattle.listing.specs.Rows.{In-order, Asks-listing}
+use Rattle.listing_definition.specs.Listing.{listed-from, listing-of}
+use Rattle.listing_definition.proofs.Fits.{listing-few}
+use Rattle.listing_walk.specs.Walk.{steps-of, order-at, Places, Keeps, Lists-asked, Lists-all}
+use Rattle.run_tables.specs.Writing.{table}
+use Rattle.listing.specs.Rows.{In-order}
 
 -- words that stand for a log stand for its rows, if these say the same
 good-rows : {w : List ℕ} {lo top : ℕ} {σ bs : Log} → lookup bs ≡ lookup σ → Good w lo top σ → Good w lo top bs
@@ -98,6 +98,10 @@ module _ {img bytes w w₁ : List ℕ} {budget lent : ℕ} {s : Solved} (A : Run
   short =
       omega (arith, steps-are, ap (λ (n : ℕ). length (flatMap written-binding (binding-rows (solved S z .final .log) n))) (sym many), bindings-short (scoped-program img bytes c) (run-finished (program img bytes) budget (solved S z .is)))
 
+  -- what is counted fits a word
+  pub counted-few : (slot : ℕ) → length (listing-of bs slot) < 2 ^ 32
+  counted-few slot = omega (arith, listing-few bs slot, short, steps-are, c .steps)
+
   module _ {slot : ℕ} (l : slot < s .answer .slots) where
     -- what `list_variables` asks
     pub asks-variables : Lists-asked w₁ lay slot
@@ -133,9 +137,3 @@ module _ {img bytes w w₁ : List ℕ} {budget lent : ℕ} {s : Solved} (A : Run
             low = L .low asks-variables;
             inside = omega arith;
           })
-
-      -- what is counted fits a word
-      pub listing-few : length (listing-of bs slot) < 2 ^ 32
-      unfolding asks-variables
-      listing-few =
-          omega (arith, listing-short bs slot, L .many asks-variables, few, short, steps-are, c .steps)

@@ -1,31 +1,28 @@
 -- What `run` and `infer_listing` answer, in the definition's terms. Assumes nothing.
-use Prim.Native.Nat.{ℕ, zero, suc, _+_, _≤_, _<_}
+use Prim.Native.Nat.{ℕ, zero, suc, _≤_, _<_}
 use native.Mathlib.Omega.{arith}
 use mathlib.Core.Path.{_≡_, refl, sym, ap, subst, _∙_}
-use mathlib.Core.Bool.{true, false}
-use mathlib.Core.List.{List, [], flatMap}
+use mathlib.Core.List.{List, []}
 use lib.ListN.{length}
-use lib.Seq.{sets, sets-eq}
+use lib.Seq.{sets-eq}
 use borrow.Author.Tests.{lt-ltb, le-ltb, le-leb, lt-leb}
-use Rattle.image.specs.Check.{check}
 use Rattle.image.specs.Program.{program}
 use Rattle.unifier_definition.specs.Log.{Binding}
-use Rattle.unifier_nodes.specs.Work.{Good}
-use Rattle.run_definition.specs.Infer.{Output, Answer, infer-types, refusal, output-of, after-check, infer}
+use Rattle.run_definition.specs.Infer.{Output, Answer, infer-types, refusal, output-of}
 use Rattle.run_definition.specs.More.{With-more, with-more, refused-more, after-run, bindings-of}
-use Rattle.run_answer.specs.Lent.{put, answer-of, work-after}
+use Rattle.run_answer.specs.Lent.{put, answer-of}
 use Rattle.run_answer.proofs.LentLaws.{put-none}
 use Rattle.run_tables.specs.Writing.{counting, writing, table, Write-asked, Writes}
 use Rattle.run_solve.specs.Solve.{Run-asked, Solves}
 use Rattle.run_solve.specs.declared.Solved.{Solved}
 use Rattle.run_solve.proofs.SolvedLaws.{slot-bindings, stopped-tables, solved-output, solved-bindings, write-asked, tables-written}
-use Rattle.listing_definition.specs.Listing.{listing-row, listed-from, listing-of, listing-with, listing}
-use Rattle.listing_definition.proofs.Sound.{after-done, after-refused, listing-number, listing-sound}
+use Rattle.listing_definition.specs.Listing.{listed-from, listing-of, listing-with, listing}
+use Rattle.listing_definition.proofs.Sound.{after-done, after-refused}
 use Rattle.listing_walk.specs.Walk.{order-at, Lists-all}
-use Rattle.listing.specs.Entry.{Gives, Lists}
+use Rattle.listing.specs.Entry.{Gives}
 use Rattle.listing.specs.Rows.{Asks-listing, Emits-listing, Writes-listing, Runs-listing}
 use Rattle.listing.specs.declared.ListingAnswer.{ListingAnswer}
-use Rattle.listing.proofs.AfterRun.{still-stands, still-good, in-order, listing-few}
+use Rattle.listing.proofs.AfterRun.{still-stands, still-good, in-order, counted-few}
 
 -- the three ends of a listing after its run
 module _ (bs : List Binding) (slot lent : ℕ) (o : Output) where
@@ -114,7 +111,7 @@ module _ {img bytes w w₁ : List ℕ} {budget : ℕ} (slot : ℕ) (t l : List �
       -- what `listing_size` asks and gives
       pub asks-count : Asks-listing counting w₂ (s .lay .lo) order n 0
       unfolding listing-of
-      asks-count = record { bs = bs; good = still-good A S z h L e; xs = listed-from bs slot; ordered = in-order A S z h L e; room = omega (arith, listing-few A S z h L e) }
+      asks-count = record { bs = bs; good = still-good A S z h L e; xs = listed-from bs slot; ordered = in-order A S z h L e; room = omega (arith, counted-few A S z slot) }
 
       module _ {words : ℕ} (E : Emits-listing counting w₂ (s .lay .lo) order n 0 words) where
         counted : words ≡ length (listing-of bs slot)

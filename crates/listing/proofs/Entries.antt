@@ -5,8 +5,8 @@ use mathlib.Core.List.{List, _++_}
 use lib.ListN.{length, take, drop}
 use Rattle.image.specs.Check.{check}
 use Rattle.image.specs.Program.{program}
-use Rattle.run_definition.specs.Infer.{Answer, Output, infer-types, refusal, output-of, after-check, infer}
-use Rattle.run_definition.specs.More.{With-more, with-more, after-run, bindings-of}
+use Rattle.run_definition.specs.Infer.{Answer, Output, infer-types, refusal, after-check, infer}
+use Rattle.run_definition.specs.More.{With-more, after-run, bindings-of}
 use Rattle.run_answer.specs.Lent.{answer-of, cleared, work-after}
 use Rattle.run_solve.proofs.Lending.{all-cleared}
 use Rattle.listing_definition.specs.Listing.{listing-with, listing}

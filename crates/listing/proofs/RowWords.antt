@@ -1,6 +1,5 @@
 -- The rows of a listing are put out one after another. Assumes nothing.
-use Prim.Native.Nat.{ℕ, suc, _+_, _-_, _≤_, _<_}
-use native.Mathlib.Nat.{add-zero}
+use Prim.Native.Nat.{ℕ, _+_, _-_, _≤_, _<_}
 use native.Mathlib.Numerals.{add-one}
 use native.Mathlib.Omega.{arith}
 use mathlib.Core.Path.{_≡_, refl, sym, ap, subst, _∙_}
@@ -13,7 +12,7 @@ use Rattle.unifier_definition.specs.Log.{Binding, lookup}
 use Rattle.unifier_nodes.specs.Work.{at, Rep, Good}
 use Rattle.unifier_nodes.proofs.Getting.{is-free, is-bound}
 use Rattle.run_tables.specs.Writing.{Sink, Target, writing, table, Asks, Emits}
-use Rattle.run_tables.proofs.Sinks.{Lawful, writing-lawful, emit-length, room-first, room-second, emit-both}
+use Rattle.run_tables.proofs.Sinks.{Lawful, emit-length, room-first, room-second, emit-both}
 use Rattle.listing_definition.specs.Listing.{listing-row}
 use Rattle.listing.specs.Rows.{In-order, Asks-row, Emits-row, Asks-listing, Emits-listing, Writes-listing}
 

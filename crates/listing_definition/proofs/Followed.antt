@@ -9,7 +9,7 @@ use lib.ListN.{length}
 use Rattle.image.specs.Ty.{Ty}
 use Rattle.image.specs.Nesting.{member}
 use Rattle.unifier_definition.specs.Log.{Binding, lookup}
-use Rattle.unifier_definition.specs.Leads.{Bindings, Mentions, Leads, leads-now, leads-on}
+use Rattle.unifier_definition.specs.Leads.{Mentions, Leads, leads-now, leads-on}
 use Rattle.unifier_definition.proofs.Acyclic.{leads-trans}
 use Rattle.unifier_definition.proofs.Mentioned.{not-member}
 use Rattle.unifier_definition.proofs.Outcomes.{by-bool, by-option}

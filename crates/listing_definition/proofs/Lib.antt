@@ -6,3 +6,4 @@ pub mod Listed
 pub mod Reading
 pub mod Sound
 pub mod Sizes
+pub mod Fits

@@ -1,12 +1,10 @@
 -- A listing is no longer than the bindings and two words for each of its rows. Assumes nothing.
 use Prim.Native.Nat.{ℕ, _+_, _*_, _≤_}
-use mathlib.Core.Path.{_≡_, sym}
-use mathlib.Core.Bool.{true, false}
-use mathlib.Core.Option.{none, some}
-use mathlib.Core.List.{List, [], _∷_, flatMap, List·Memᴰ}
+use mathlib.Core.Path.{_≡_}
+use mathlib.Core.Bool.{false}
+use mathlib.Core.List.{List, [], _∷_, flatMap}
 use native.Mathlib.Omega.{arith}
 use lib.ListN.{length, length-append}
-use Rattle.image.specs.Ty.{written}
 use Rattle.image.specs.Nesting.{member}
 use Rattle.unifier_definition.specs.Log.{Binding, lookup}
 use Rattle.unifier_definition.proofs.Outcomes.{by-bool, by-option}

@@ -28,7 +28,7 @@ unfolding after-run
 after-refused o next n e = ap (λ (m : ℕ). elim m [ zero ↦ next | suc k ↦ with-more o [] ]) e
 
 -- a number, with what it is kept
-by-number : {C : Type 0} (n : ℕ) → (n ≡ 0 → C) → ((k : ℕ) → n ≡ suc k → C) → C
+pub by-number : {C : Type 0} (n : ℕ) → (n ≡ 0 → C) → ((k : ℕ) → n ≡ suc k → C) → C
 by-number zero f g = f refl
 by-number (suc k) f g = g k refl
 

@@ -16,7 +16,7 @@ use Rattle.listing_definition.specs.Listing.{inside, follow, listed-from}
 use Rattle.listing_definition.specs.Turns.{to-come, unlisted}
 use Rattle.listing_definition.proofs.Unlisted.{unlisted-short}
 use Rattle.listing_definition.proofs.Turns.{follow-done, follow-skip, follow-list, next-fewer, follow-more}
-use Rattle.listing_walk.specs.Walk.{steps-of, order-at, Places, Keeps, Stacked, stacked-none, stacked-some, Ordered, Seeks, Seek-asked, Stands-for, Walking, List-asked, Lists-one, Lists-asked, Lists-all}
+use Rattle.listing_walk.specs.Walk.{steps-of, order-at, Places, Keeps, Stacked, stacked-none, stacked-some, Seeks, Seek-asked, Stands-for, Walking, List-asked, Lists-one, Lists-asked, Lists-all}
 use Rattle.listing_walk.proofs.Stacks.{stacked-length, stacked-each, stacked-in}
 
 keeps-none : (w : List ℕ) (lay : Layout) → Keeps w w lay

@@ -1,8 +1,8 @@
 -- Where the variables listed stand and where their marks do, one variable more among them, and how one is found. Assumes nothing.
-use Prim.Native.Nat.{ℕ, _+_, _*_, _-_, _≤_, _<_}
+use Prim.Native.Nat.{ℕ, _+_, _-_, _≤_, _<_}
 use native.Mathlib.Omega.{arith}
-use mathlib.Core.Path.{_≡_, refl, sym, ap, subst, _∙_}
-use mathlib.Core.Bool.{Bool, true, false}
+use mathlib.Core.Path.{_≡_, refl, sym, subst, _∙_}
+use mathlib.Core.Bool.{true, false}
 use mathlib.Core.Logic.{_⊎_, inl, inr}
 use mathlib.Core.List.{List, _∷_, List·Memᴰ, List·Memᴰ·cases-cons}
 use lib.ListN.{length, set, length-set}
@@ -15,7 +15,7 @@ use Rattle.unifier_definition.proofs.Mentioned.{not-member}
 use Rattle.unifier_nodes.specs.Work.{at}
 use Rattle.run_layout.specs.declared.Layout.{Layout}
 use Rattle.listing_definition.proofs.Members.{is-member}
-use Rattle.listing_walk.specs.Walk.{steps-of, order-at, mark-at, Places, Stacked, stacked-some, Ordered}
+use Rattle.listing_walk.specs.Walk.{steps-of, order-at, mark-at, Places, stacked-some, Ordered}
 use Rattle.listing_walk.proofs.Stacks.{stacked-same, stacked-in}
 
 -- a mark stands over the names log or after the slots' types

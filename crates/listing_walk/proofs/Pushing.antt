@@ -1,7 +1,6 @@
 -- The variables of a type are pushed node by node, the operands of a Phi from right to left. Assumes nothing.
 use Prim.Native.Nat.{ℕ, zero, suc, _+_, _-_, _≤_, _<_}
 use native.Mathlib.Nat.{add-zero, le-refl}
-use native.Mathlib.Numerals.{add-one}
 use native.Mathlib.Omega.{arith}
 use mathlib.Core.Path.{_≡_, refl, sym, ap, subst, _∙_}
 use mathlib.Core.List.{List, [], _∷_, _++_, flatMap, List·Memᴰ, List·Memᴰ·cases-cons, List·Memᴰ·not-nil, List·Memᴰ·append-cases}
@@ -9,12 +8,12 @@ use mathlib.Core.Logic.{inl, inr}
 use lib.ListN.{length, getD, set, drop, length-set, length-append, drop-of-length-le}
 use lib.Seq.{drop-cons, getD-set-same, getD-set-other}
 use Rattle.image.specs.Ty.{Ty, poly, Tys, nil, cons, count-of, variables, variables-all}
-use Rattle.unifier_nodes.specs.Work.{at, Leaf, leaf-prim, leaf-poly, leaf-method, leaf-object, Rep, rep-var, rep-leaf, rep-func, rep-phi, Reps, reps-nil, reps-cons}
+use Rattle.unifier_nodes.specs.Work.{at, leaf-prim, leaf-poly, leaf-method, leaf-object, Rep, rep-var, rep-leaf, rep-func, rep-phi, Reps, reps-nil, reps-cons}
 use Rattle.unifier_nodes.specs.Walks.{Stands, Reads-node}
 use Rattle.unifier_nodes.proofs.Frames.{rep-same}
 use Rattle.unifier_nodes.specs.declared.node.Node.{Node}
 use Rattle.unifier_nodes.specs.declared.node.Node.the-variants.{Var, Primitive, Poly, ObjectMethod, Object, Function, Phi}
-use Rattle.listing_walk.specs.Walk.{Stacked, stacked-none, stacked-some, Pushed, Push-asked, Pushes, Operand, Operands, Push-all-asked, Pushes-all}
+use Rattle.listing_walk.specs.Walk.{stacked-none, stacked-some, Pushed, Push-asked, Pushes, Operand, Operands, Push-all-asked, Pushes-all}
 use Rattle.listing_walk.proofs.Stacks.{stacked-length, stacked-same, stacked-over}
 
 -- the variables of a type that a node stands for are slots

@@ -1,25 +1,22 @@
 -- A listing on its way: one variable is listed, and those in its binding are pending. Assumes nothing.
-use Prim.Native.Nat.{ℕ, _+_, _*_, _-_, _≤_, _<_}
+use Prim.Native.Nat.{ℕ, _+_, _-_, _≤_, _<_}
 use native.Mathlib.Omega.{arith}
 use mathlib.Core.Path.{_≡_, refl, sym, ap, subst, _∙_}
-use mathlib.Core.Bool.{true, false}
 use mathlib.Core.Option.{Option, none, some}
 use mathlib.Core.Logic.{inl, inr}
 use mathlib.Core.List.{List, [], _∷_, _++_, List·Memᴰ, List·Memᴰ·not-nil, List·Memᴰ·append-cases}
 use lib.ListN.{length, set, length-set, length-append}
 use Rattle.image.specs.Ty.{Ty, variables}
-use Rattle.image.specs.Nesting.{member}
 use Rattle.unifier_definition.specs.Log.{Binding, lookup}
 use Rattle.unifier_nodes.specs.Work.{at, Rep, Bound, bound}
 use Rattle.unifier_nodes.proofs.Frames.{rep-same}
 use Rattle.unifier_nodes.proofs.Getting.{is-free, is-bound}
 use Rattle.run_layout.specs.declared.Layout.{Layout}
 use Rattle.listing_definition.specs.Listing.{inside}
-use Rattle.listing_definition.specs.Turns.{unlisted}
 use Rattle.listing_definition.proofs.Unlisted.{inside-taken}
-use Rattle.listing_walk.specs.Walk.{steps-of, order-at, mark-at, Places, Keeps, Stacked, stacked-none, Pushed, Push-asked, Pushes, Ordered, Stands-for, Walking, List-asked, Lists-one}
+use Rattle.listing_walk.specs.Walk.{steps-of, order-at, mark-at, Places, Keeps, Pushed, Push-asked, Pushes, Walking, List-asked, Lists-one}
 use Rattle.listing_walk.proofs.Stacks.{stacked-length, stacked-same, stacked-over}
-use Rattle.listing_walk.proofs.Marks.{Free, mark-free, order-free, listed-words, other-word, ordered-same, ordered-more}
+use Rattle.listing_walk.proofs.Marks.{mark-free, order-free, listed-words, other-word, ordered-same, ordered-more}
 use Rattle.listing_walk.proofs.Pushing.{pushed-none, rep-low-variables}
 
 -- what is inside, by the binding

@@ -1,5 +1,5 @@
 -- A finished run has visited a slot, so that its binding table has room for two words more. Assumes nothing.
-use Prim.Native.Nat.{ℕ, _+_, _*_, _≤_, _<_}
+use Prim.Native.Nat.{ℕ, _+_, _*_, _≤_}
 use mathlib.Core.Path.{refl}
 use mathlib.Core.List.{List, [], _∷_, flatMap, List·Memᴰ, List·Memᴰ·not-nil}
 use native.Mathlib.Omega.{arith}

@@ -1,5 +1,3 @@
-use native.Mathlib.Omega.{arith}
-use mathlib.Core.Path.{refl}
 use borrow.Author.Needs.{needs}
 use Rattle.listing.proofs.AfterRun.{asks-variables}
 use Rattle.listing.proofs.Answers.{runs-stopped, runs-outside, asks-count, runs-long, asks-rows, asks-tables, runs-done}
