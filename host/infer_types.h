@@ -295,15 +295,17 @@ uint32_t infer_batch(const uint32_t *list, size_t list_words, const uint32_t *im
  * The same as infer_types, and why a slot has its type: the variable of the slot and those that it leads to, a row for each. A row is the
  * slot and then what its variable is bound to, a type as in the tables, or INFER_TYPES_NONE if it is not bound. After a row come those of
  * the variables in its binding, from left to right, each followed by all that it leads to; a variable that has its row gets no other.
- * No listing has more than twice the words of its tables.
+ * A listing has at most 4 words for each step of the budget (proved): a call that is lent 4 * budget listing words is never refused with
+ * INFER_TYPES_REFUSED_LISTING_WORDS.
  *
  * - INFER_TYPES_DONE: the tables and the listing are written, each from the first word on; the words after them are untouched.
  * - A refusal that infer_types would give comes before those of the listing.
  * - INFER_TYPES_REFUSED_SLOT: else, a slot that isn't below the run's count of slots. Those that the run made may be asked for.
  * - INFER_TYPES_REFUSED_LISTING_WORDS: else, a listing longer than the listing words. Lend as many as are wanted and call again.
  *
- * In the last two the answer has the steps of the run, and is 0 else. A refusal leaves table words and listing words untouched; work
- * words are as after infer_types, all 0 after these two.
+ * In the last two the steps are those of the run; slots, bindings, table_words and the four counts are 0; listing_words is 0 in the first
+ * and the words wanted in the second. A refusal leaves table words and listing words untouched; work words are as after infer_types, all 0
+ * after these two.
  */
 struct infer_types_listing_answer infer_listing(const uint32_t *image, size_t image_words,
                                                 const uint8_t *names, size_t name_bytes, uint32_t budget,

@@ -10,7 +10,6 @@
 use crate::corpus::{self, Reader};
 use crate::deep;
 use crate::image::Case;
-use crate::listings::{LISTING_WORDS, SLOT};
 use infer_types::{Answer, Lookups, Refusal, Tables, ANSWER_ROW};
 
 /// The corpus files, which stand beside their answers.
@@ -103,7 +102,7 @@ pub fn words(answer: &Answer) -> [u32; ANSWER_ROW] {
 fn stored(number: u32) -> &'static [usize] {
     match number {
         Answer::DONE => &[1, 2, 3, 4, 5, 6, 7, 8],
-        Refusal::EMPTY_PHI..=Refusal::OUT_OF_STEPS | SLOT | LISTING_WORDS => &[1],
+        Refusal::EMPTY_PHI..=Refusal::OUT_OF_STEPS | Refusal::SLOT | Refusal::LISTING_WORDS => &[1],
         Refusal::TABLE_WORDS => &[1, 4],
         _ => &[],
     }

@@ -2,7 +2,7 @@
 
 use crate::answers::{is_done, sum, without_tables, Expected};
 use crate::image::{type_kinds, Input, NONE};
-use crate::listings::{Asked, Left, LISTING_WORDS, SLOT};
+use crate::listings::{Asked, Left};
 use infer_types::{infer_types_into, work_words, Answer, Refusal, LIMIT};
 use std::collections::{HashMap, HashSet};
 use std::ops::Range;
@@ -74,11 +74,11 @@ impl Run {
             return refused(without_tables(self.answer), 0);
         }
         if asked.slot >= slots {
-            return by_listing(SLOT, 0);
+            return by_listing(Refusal::SLOT, 0);
         }
         let listing = self.listing(asked.slot);
         if listing.len() > asked.listing {
-            return by_listing(LISTING_WORDS, listing.len());
+            return by_listing(Refusal::LISTING_WORDS, listing.len());
         }
         let run = Expected { answer: self.answer, sum: sum(&self.tables) };
         Left::new(run, listing.len(), &listing)

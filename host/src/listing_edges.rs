@@ -3,7 +3,7 @@
 use crate::image::*;
 use crate::known::{self, Screen};
 use crate::listed::{row_slots, Run};
-use crate::listings::{Asked, ListingCase, LISTING_WORDS, SLOT};
+use crate::listings::{Asked, ListingCase};
 use infer_types::{Answer, Refusal};
 use std::sync::Arc;
 
@@ -31,9 +31,9 @@ impl Cases {
             ("just enough", DONE, tables, listing),
             ("a listing word more", DONE, tables, listing + 1),
             ("more of both", DONE, tables + 1_000, listing + 1_000),
-            ("a listing word too few", LISTING_WORDS, tables, listing - 1),
-            ("no listing words", LISTING_WORDS, tables, 0),
-            ("no listing words, and more table words", LISTING_WORDS, tables + 1_000, 0),
+            ("a listing word too few", Refusal::LISTING_WORDS, tables, listing - 1),
+            ("no listing words", Refusal::LISTING_WORDS, tables, 0),
+            ("no listing words, and more table words", Refusal::LISTING_WORDS, tables + 1_000, 0),
             ("a table word too few", Refusal::TABLE_WORDS, tables - 1, listing),
             ("one too few of both", Refusal::TABLE_WORDS, tables - 1, listing - 1),
             ("none of both", Refusal::TABLE_WORDS, 0, 0),
@@ -230,13 +230,13 @@ fn slots_outside(cases: &mut Cases) {
         add(DONE, slots - 1, tables, 1_000);
         for slot in [slots, slots + 1, 1 << 16, 1 << 29, 1 << 30, 1 << 31, NONE - 1, NONE] {
             for listing in [0, 1, 1_000] {
-                add(SLOT, slot, tables, listing);
-                add(SLOT, slot, tables + 1_000, listing);
+                add(Refusal::SLOT, slot, tables, listing);
+                add(Refusal::SLOT, slot, tables + 1_000, listing);
                 add(Refusal::TABLE_WORDS, slot, tables - 1, listing);
             }
         }
         for slot in [0, slots - 1] {
-            add(LISTING_WORDS, slot, tables, 1);
+            add(Refusal::LISTING_WORDS, slot, tables, 1);
             add(Refusal::TABLE_WORDS, slot, tables - 1, 1);
         }
     }

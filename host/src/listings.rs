@@ -10,66 +10,8 @@ use crate::answers::{self, is_done, sum, Expected};
 use crate::corpus::{push, push_padded_bytes, push_padded_words, push_word, Reader};
 use crate::image::Input;
 use crate::report::{if_short, Tested};
-use infer_types::Answer;
+use infer_types::{Answer, ListingAnswer, Refusal};
 use std::sync::Arc;
-
-/// The numbers that a listing adds.
-pub const SLOT: u32 = 17;
-pub const LISTING_WORDS: u32 = 18;
-
-#[repr(C)]
-#[derive(Clone, Copy, Debug, Default, PartialEq)]
-pub struct ListingAnswer {
-    pub answer: Answer,
-    pub listing_words: u32,
-}
-
-extern "C" {
-    /// Each pointer with the count of what it points to, as the library has it.
-    pub fn infer_listing(
-        image: *const u32,
-        image_words: usize,
-        names: *const u8,
-        name_bytes: usize,
-        budget: u32,
-        work: *mut u32,
-        work_words: usize,
-        tables: *mut u32,
-        table_words: usize,
-        slot: u32,
-        listing: *mut u32,
-        listing_words: usize,
-    ) -> ListingAnswer;
-}
-
-/// Words that are lent and written to.
-pub struct Lent<'a> {
-    pub work: &'a mut [u32],
-    pub tables: &'a mut [u32],
-    pub listing: &'a mut [u32],
-}
-
-/// One call.
-pub fn call(image: &[u32], names: &[u8], budget: u32, slot: u32, lent: &mut Lent) -> ListingAnswer {
-    let Lent { work, tables, listing } = lent;
-    // SAFETY: each pointer comes with its slice's length, and the slices that are written to are exclusive.
-    unsafe {
-        infer_listing(
-            image.as_ptr(),
-            image.len(),
-            names.as_ptr(),
-            names.len(),
-            budget,
-            work.as_mut_ptr(),
-            work.len(),
-            tables.as_mut_ptr(),
-            tables.len(),
-            slot,
-            listing.as_mut_ptr(),
-            listing.len(),
-        )
-    }
-}
 
 /// What a call asks for, and how many words it lends for that.
 #[derive(Clone, Copy, Debug)]
@@ -145,7 +87,7 @@ pub fn write(out: &mut Vec<u8>, case: &ListingCase) {
     push(out, tables as u64);
     push(out, listing as u64);
     answers::push(out, &left.run);
-    if [Answer::DONE, LISTING_WORDS].contains(&left.run.answer.number) {
+    if [Answer::DONE, Refusal::LISTING_WORDS].contains(&left.run.answer.number) {
         push(out, left.listing_words as u64);
     }
     if is_done(&left.run.answer) {
@@ -178,7 +120,7 @@ fn read_input(reader: &mut Reader) -> Input {
 
 fn read_left(reader: &mut Reader) -> Left {
     let run = answers::next(reader);
-    let is_known = [Answer::DONE, LISTING_WORDS].contains(&run.answer.number);
+    let is_known = [Answer::DONE, Refusal::LISTING_WORDS].contains(&run.answer.number);
     let listing_words = if is_known { reader.number() as u32 } else { 0 };
     let listing = if is_done(&run.answer) { answers::next_sum(reader) } else { sum(&[]) };
     Left { run, listing_words, listing }

@@ -21,11 +21,11 @@ use Rattle.run_definition.proofs.Demand.{same-bindings}
 use Rattle.run_definition.proofs.Spent.{bindings-short}
 use Rattle.run_layout.specs.declared.Layout.{Layout}
 use Rattle.run_tables.specs.Standing.{Resolved-run}
-use Rattle.run_tables.proofs.Finishing.{types-many, resolved-good}
+use Rattle.run_tables.proofs.Finishing.{resolved-good}
 use Rattle.run_walk.proofs.Composing.{Layout-at, layout-at}
 use Rattle.run_solve.specs.Solve.{Run-asked, Solves}
 use Rattle.run_solve.specs.declared.Solved.{Solved}
-use Rattle.run_solve.proofs.SolvedLaws.{solved, slot-bindings, Stand}
+use Rattle.run_solve.proofs.SolvedLaws.{solved, slot-bindings, Stand, many}
 use Rattle.listing_definition.specs.Listing.{listed-from, listing-of}
 use Rattle.listing_definition.proofs.Fits.{listing-few}
 use Rattle.listing_walk.specs.Walk.{steps-of, order-at, Places, Keeps, Lists-asked, Lists-all}
@@ -88,15 +88,12 @@ module _ {img bytes w w₁ : List ℕ} {budget lent : ℕ} {s : Solved} (A : Run
         small = omega (arith, A .long, c .short, c .steps);
       }
 
-  many : length (solved S z .final .types) ≡ s .answer .slots
-  many = ap length (solved S z .whole) ∙ types-many (solved S z .resolved)
-
   same : lookup bs ≡ lookup (solved S z .final .log)
-  same = ap (λ (n : ℕ). lookup (binding-rows (solved S z .final .log) n)) (sym many) ∙ same-bindings (scoped-program img bytes c) (run-finished (program img bytes) budget (solved S z .is))
+  same = ap (λ (n : ℕ). lookup (binding-rows (solved S z .final .log) n)) (sym (many S z)) ∙ same-bindings (scoped-program img bytes c) (run-finished (program img bytes) budget (solved S z .is))
 
   short : 2 + length (flatMap written-binding bs) ≤ 2 * steps-of lay
   short =
-      omega (arith, steps-are, ap (λ (n : ℕ). length (flatMap written-binding (binding-rows (solved S z .final .log) n))) (sym many), bindings-short (scoped-program img bytes c) (run-finished (program img bytes) budget (solved S z .is)))
+      omega (arith, steps-are, ap (λ (n : ℕ). length (flatMap written-binding (binding-rows (solved S z .final .log) n))) (sym (many S z)), bindings-short (scoped-program img bytes c) (run-finished (program img bytes) budget (solved S z .is)))
 
   -- what is counted fits a word
   pub counted-few : (slot : ℕ) → length (listing-of bs slot) < 2 ^ 32

@@ -5,7 +5,7 @@ use mathlib.Core.List.{List, _++_}
 use lib.ListN.{length, take, drop}
 use Rattle.image.specs.Check.{check}
 use Rattle.image.specs.Program.{program}
-use Rattle.run_definition.specs.Infer.{Answer, Output, infer-types, refusal, after-check, infer}
+use Rattle.run_definition.specs.Infer.{Output, infer-types, refusal, after-check, infer}
 use Rattle.run_definition.specs.More.{With-more, after-run, bindings-of}
 use Rattle.run_answer.specs.Lent.{answer-of, cleared, work-after}
 use Rattle.run_solve.proofs.Lending.{all-cleared}
@@ -29,14 +29,12 @@ module _ {img bytes w : List ℕ} {budget : ℕ} {t l : List ℕ} {slot : ℕ} w
   -- the answer where the check passes, and the work words once all are cleared
   pub lists-passed : {w₂ w₃ t′ l′ : List ℕ} {r : ListingAnswer} → check img bytes budget (length w) ≡ 0 → Runs-listing img bytes budget (take (8 * (length img + budget)) w) w₂ t t′ slot l l′ r
       → w₃ ≡ cleared (length (w₂ ++ drop (8 * (length img + budget)) w)) (w₂ ++ drop (8 * (length img + budget)) w) → Lists img bytes budget w w₃ t t′ slot l l′ r
-  unfolding after-check answer-of
+  unfolding after-check
   lists-passed {w₂} {t′ = t′} {l′ = l′} {r = r} e runs f =
-      let g : Gives (defined img bytes budget w t slot l) t t′ l l′ r = subst (λ (m : With-more). Gives m t t′ l l′ r) (sym (defined-as img bytes w budget t l slot e)) (runs .gives) in
       record {
-        gives = g;
+        gives = subst (λ (m : With-more). Gives m t t′ l l′ r) (sym (defined-as img bytes w budget t l slot e)) (runs .gives);
         clears = all-cleared img bytes budget w e w₂ (runs .len) f;
-        number = listing-number img bytes budget (length w) (length t) slot (length l);
-        sound = λ p z. listing-sound img bytes budget (length w) (length t) slot (length l) p (sym (ap (λ (a : Answer). a .number) (g .answers)) ∙ z);
+        sound = λ p. record { number = listing-number img bytes budget (length w) (length t) slot (length l) p; listing = listing-sound img bytes budget (length w) (length t) slot (length l) p };
       }
 
   -- the answer where the check refuses the image
@@ -50,6 +48,5 @@ module _ {img bytes w : List ℕ} {budget : ℕ} {t l : List ℕ} {slot : ℕ} w
         (sym (defined-as img bytes w budget t l slot e ∙ after-refused (refusal (suc n) 0 0) (listing-with (bindings-of (infer-types (program img bytes) budget)) slot (length l) (refusal (suc n) 0 0)) n refl))
         (gives-stopped (refusal (suc n) 0 0) a f refl);
     clears = sym (ap (λ (m : ℕ). work-after m w) e);
-    number = λ p. absurd (h (sym e ∙ p));
     sound = λ p. absurd (h (sym e ∙ p));
   }

@@ -14,7 +14,7 @@ use Rattle.unifier_nodes.proofs.Getting.{is-free, is-bound}
 use Rattle.run_tables.specs.Writing.{Sink, Target, writing, table, Asks, Emits}
 use Rattle.run_tables.proofs.Sinks.{Lawful, emit-length, room-first, room-second, emit-both}
 use Rattle.listing_definition.specs.Listing.{listing-row}
-use Rattle.listing.specs.Rows.{In-order, Asks-row, Emits-row, Asks-listing, Emits-listing, Writes-listing}
+use Rattle.listing.specs.Rows.{In-order, Asks-listing-row, Emits-listing-row, Asks-listing, Emits-listing, Writes-listing}
 
 row-unbound : (bs : List Binding) (x : ℕ) → lookup bs x ≡ none → listing-row bs x ≡ x ∷ NONE ∷ []
 unfolding listing-row
@@ -24,7 +24,7 @@ row-bound : (bs : List Binding) (x : ℕ) (t : Ty) → lookup bs x ≡ some t �
 unfolding listing-row
 row-bound bs x t e = rw (e, listing-row)
 
-module _ {S : Type 0} {k : Sink S} {w : List ℕ} {lo x : ℕ} {s : S} (A : Asks-row k w lo x s) where
+module _ {S : Type 0} {k : Sink S} {w : List ℕ} {lo x : ℕ} {s : S} (A : Asks-listing-row k w lo x s) where
   -- the binding is a word of the work words
   pub row-inside : x < length w
   row-inside = let l = A .low in omega (arith, A .good .nodes)
@@ -42,7 +42,7 @@ module _ {S : Type 0} {k : Sink S} {w : List ℕ} {lo x : ℕ} {s : S} (A : Asks
     pub room-unbound : k .room s 2
     room-unbound = subst (λ (ws : List ℕ). k .room s (length ws)) (shown-unbound (A .bs) (A .good)) (A .room)
 
-    pub emits-unbound : {s′ : S} → s′ ≡ k .emit s (x ∷ NONE ∷ []) → Emits-row k w lo x s s′
+    pub emits-unbound : {s′ : S} → s′ ≡ k .emit s (x ∷ NONE ∷ []) → Emits-listing-row k w lo x s s′
     emits-unbound e = record { is = λ bs g. e ∙ ap (k .emit s) (sym (shown-unbound bs g)) }
 
   -- a bound one
@@ -53,11 +53,11 @@ module _ {S : Type 0} {k : Sink S} {w : List ℕ} {lo x : ℕ} {s : S} (A : Asks
     pub asks-type : {s₁ : S} → s₁ ≡ k .emit s (x ∷ []) → Asks k w lo (at w x - 1) s₁
     asks-type e = let q = shown-bound (A .bs) (A .good) in record { t = q .0; rep = q .2; room = room-second law (x ∷ []) (written (q .0)) (q .1) e (A .room) }
 
-    pub emits-bound : {s₁ s′ : S} → s₁ ≡ k .emit s (x ∷ []) → Emits k w lo (at w x - 1) s₁ s′ → Emits-row k w lo x s s′
+    pub emits-bound : {s₁ s′ : S} → s₁ ≡ k .emit s (x ∷ []) → Emits k w lo (at w x - 1) s₁ s′ → Emits-listing-row k w lo x s s′
     emits-bound e E = record { is = λ bs g. let q = shown-bound bs g in emit-both law (x ∷ []) (written (q .0)) (q .1) e (E .is (q .0) (q .2)) }
 
 -- the words keep their number
-pub row-length : {w t t′ : List ℕ} {lo x at next : ℕ} → Emits-row writing w lo x (table t at) (table t′ next) → Asks-row writing w lo x (table t at) → length t′ ≡ length t
+pub row-length : {w t t′ : List ℕ} {lo x at next : ℕ} → Emits-listing-row writing w lo x (table t at) (table t′ next) → Asks-listing-row writing w lo x (table t at) → length t′ ≡ length t
 row-length {t = t} {x = x} {at = from} E A = ap (λ (s : Target). length (s .words)) (E .is (A .bs) (A .good)) ∙ length-sets t from (listing-row (A .bs) x)
 
 -- the next row
@@ -84,7 +84,7 @@ module _ {S : Type 0} {k : Sink S} {w : List ℕ} {lo order n : ℕ} {s₀ : S} 
     rows-inside l = omega (arith, R .ordered .inside)
 
     -- the next variable
-    pub rows-next : i < n → Asks-row k w lo (at w (order + i)) s
+    pub rows-next : i < n → Asks-listing-row k w lo (at w (order + i)) s
     rows-next l =
         let o = R .ordered in
         let m = o .many in
@@ -96,7 +96,7 @@ module _ {S : Type 0} {k : Sink S} {w : List ℕ} {lo order n : ℕ} {s₀ : S} 
           room = subst (λ (x : ℕ). k .room s (length (listing-row (R .bs) x))) (sym (o .each i l)) (room-first law (listing-row (R .bs) (getD (R .xs) i 0)) _ e (R .room));
         }
 
-    pub rows-more : {s′ : S} → i < n → Emits-row k w lo (at w (order + i)) s s′ → Rows-left k w lo order n s₀ s′ (i + 1)
+    pub rows-more : {s′ : S} → i < n → Emits-listing-row k w lo (at w (order + i)) s s′ → Rows-left k w lo order n s₀ s′ (i + 1)
     rows-more {s′} l E = record {
       left = λ bs xs g o. let m = o .many in emit-both law (listing-row bs (getD xs i 0)) _ (next-row bs xs i (omega arith)) (row bs xs g o) refl ∙ R .left bs xs g o;
       bs = R .bs;

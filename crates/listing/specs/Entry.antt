@@ -5,9 +5,10 @@ use mathlib.Core.List.{List}
 use lib.ListN.{length}
 use Rattle.image.specs.Check.{check}
 use Rattle.image.specs.Program.{program}
-use Rattle.run_definition.specs.More.{With-more}
+use Rattle.run_definition.specs.Infer.{infer-types, infer}
+use Rattle.run_definition.specs.More.{With-more, bindings-of}
 use Rattle.run_answer.specs.Lent.{put, answer-of, work-after}
-use Rattle.listing_definition.specs.Listing.{listing}
+use Rattle.listing_definition.specs.Listing.{listing-of, listing}
 use Rattle.listing_definition.specs.Exactly.{Listing-sound, Listing-number}
 use Rattle.listing.specs.declared.ListingAnswer.{ListingAnswer}
 
@@ -22,9 +23,15 @@ pub record Gives (m : With-more) (t t′ l l′ : List ℕ) (r : ListingAnswer) 
   pub tables : t′ ≡ put t 0 (m .tables)
   pub rows : l′ ≡ put l 0 (m .more)
 
--- demands 1 and 2, demand 3 with this request's own numbers, and "exactly one row each"
+-- demand 3, with this request's own numbers; its tables, and "exactly one row each"
+pub record Never-stuck (img bytes : List ℕ) (budget : ℕ) (w t : List ℕ) (slot : ℕ) (l : List ℕ) : Type 0 where
+  pub number :
+      let wanted = length (listing-of (bindings-of (infer-types (program img bytes) budget)) slot) in
+      Listing-number (infer img bytes budget (length w) (length t)) slot wanted (length l) (defined img bytes budget w t slot l .answer .number)
+  pub listing : defined img bytes budget w t slot l .answer .number ≡ 0 → Listing-sound (program img bytes) slot (defined img bytes budget w t slot l)
+
+-- demands 1, 2 and 3
 pub record Lists (img bytes : List ℕ) (budget : ℕ) (w w′ t t′ : List ℕ) (slot : ℕ) (l l′ : List ℕ) (r : ListingAnswer) : Type 0 where
   pub gives : Gives (defined img bytes budget w t slot l) t t′ l l′ r
   pub clears : w′ ≡ work-after (check img bytes budget (length w)) w
-  pub number : check img bytes budget (length w) ≡ 0 → Listing-number (defined img bytes budget w t slot l .answer .number)
-  pub sound : check img bytes budget (length w) ≡ 0 → r .answer .number ≡ 0 → Listing-sound (program img bytes) slot (defined img bytes budget w t slot l)
+  pub sound : check img bytes budget (length w) ≡ 0 → Never-stuck img bytes budget w t slot l

@@ -23,14 +23,14 @@ pub record In-order (w : List ℕ) (lo order n : ℕ) (xs : List ℕ) : Type 0 w
 
 module _ {S : Type 0} (k : Sink S) (w : List ℕ) (lo : ℕ) where
   -- what is asked to put out a variable's row: that the words stand for bindings, and room
-  pub record Asks-row (x : ℕ) (s : S) : Type 0 where
+  pub record Asks-listing-row (x : ℕ) (s : S) : Type 0 where
     pub bs : List Binding
     pub good : Good w lo (length w) bs
     pub low : x < lo
     pub room : k .room s (length (listing-row bs x))
 
   -- a row is put out
-  pub record Emits-row (x : ℕ) (s s′ : S) : Type 0 where
+  pub record Emits-listing-row (x : ℕ) (s s′ : S) : Type 0 where
     pub is : (bs : List Binding) → Good w lo (length w) bs → s′ ≡ k .emit s (listing-row bs x)
 
   -- the same of the rows of n variables

@@ -3,10 +3,11 @@ ghost use mathlib.Core.Path.{_≡_};
 ghost use Rattle.run_tables.specs.Writing.{counting, writing, table};
 ghost use Rattle.run_solve.specs.Solve.{Run-asked};
 ghost use Rattle.listing.specs.Entry.{Lists};
-ghost use Rattle.listing.specs.Rows.{Asks-row, Emits-row, Asks-listing, Emits-listing, Writes-listing, Runs-listing};
+ghost use Rattle.listing.specs.Rows.{Asks-listing-row, Emits-listing-row, Asks-listing, Emits-listing, Writes-listing, Runs-listing};
 ghost use Rattle.run_definition.specs.Infer.{refusal as refusal-of};
 ghost use Rattle.run_answer.specs.Lent.{answer-of};
 use image::NONE;
+use image::TypeId;
 use image::WORK_WORDS_EACH;
 use image::refusals;
 use listing_walk::list_variables;
@@ -14,6 +15,8 @@ use listing_walk::order_of;
 use run_answer::Answer;
 use run_answer::clear;
 use run_answer::refusal;
+use run_tables::put_one;
+use run_tables::put_two;
 use run_tables::type_size;
 use run_tables::write_type;
 
@@ -25,11 +28,11 @@ pub struct ListingAnswer {
 }
 
 // A row's words, added to those so far.
-fn row_size(w: &[u32], lo: u32, x: u32, words: u32) -> u32
-    requires { ⌜ Asks-row counting (now w) lo x words ⌝ }
-    ensures { λ r. ⌜ Emits-row counting (now (w .entry)) lo x words r ⌝ }
+fn row_size(w: &[u32], lo: u32, x: TypeId, words: u32) -> u32
+    requires { ⌜ Asks-listing-row counting (now w) lo (x .0) words ⌝ }
+    ensures { λ r. ⌜ Emits-listing-row counting (now (w .entry)) lo (x .0) words r ⌝ }
 {
-    let b = w[x as usize];
+    let b = w[x.0 as usize];
     if b == 0 {
         return words + 2;
     }
@@ -44,40 +47,39 @@ fn listing_size(w: &[u32], lo: u32, order: u32, n: u32) -> u32
     let mut words: u32 = 0;
     let mut k: u32 = 0;
     while k < n {
-        let x = w[order as usize + k as usize];
+        let x = TypeId(w[order as usize + k as usize]);
         words = row_size(w, lo, x, words);
         k += 1;
     }
     words
 }
 
-fn write_row(w: &[u32], lo: u32, x: u32, t: &mut [u32], at: usize) -> usize
-    requires { ⌜ Asks-row writing (now w) lo x (table (now t) at) ⌝ }
-    ensures { λ r. ⌜ Emits-row writing (now (w .entry)) lo x (table (now (t .entry)) at) (table (now (t .exit)) r) ⌝ }
+fn write_row(w: &[u32], lo: u32, x: TypeId, listing: &mut [u32], at: usize) -> usize
+    requires { ⌜ Asks-listing-row writing (now w) lo (x .0) (table (now listing) at) ⌝ }
+    ensures { λ r. ⌜ Emits-listing-row writing (now (w .entry)) lo (x .0) (table (now (listing .entry)) at) (table (now (listing .exit)) r) ⌝ }
 {
-    t[at] = x;
-    let b = w[x as usize];
+    let b = w[x.0 as usize];
     if b == 0 {
-        t[at + 1] = NONE;
-        return at + 2;
+        return put_two(listing, at, x.0, NONE);
     }
-    write_type(w, lo, b - 1, t, at + 1)
+    let next = put_one(listing, at, x.0);
+    write_type(w, lo, b - 1, listing, next)
 }
 
-fn write_listing(w: &[u32], lo: u32, order: u32, n: u32, t: &mut [u32])
-    requires { ⌜ Asks-listing writing (now w) lo order n (table (now t) 0) ⌝ }
-    ensures { λ _. ⌜ Writes-listing (now (w .entry)) lo order n (now (t .entry)) (now (t .exit)) ⌝ }
+fn write_listing(w: &[u32], lo: u32, order: u32, n: u32, listing: &mut [u32])
+    requires { ⌜ Asks-listing writing (now w) lo order n (table (now listing) 0) ⌝ }
+    ensures { λ _. ⌜ Writes-listing (now (w .entry)) lo order n (now (listing .entry)) (now (listing .exit)) ⌝ }
 {
     let mut next: usize = 0;
     let mut k: u32 = 0;
     while k < n {
-        let x = w[order as usize + k as usize];
-        next = write_row(w, lo, x, t, next);
+        let x = TypeId(w[order as usize + k as usize]);
+        next = write_row(w, lo, x, listing, next);
         k += 1;
     }
 }
 
-// Refused by a test of the listing.
+// A refusal: its counts and table words are 0.
 fn refused(number: u32, steps: u32, listing_words: u32) -> ListingAnswer
     ensures { λ r. ⌜ (answer-of (r .answer) ≡ refusal-of number steps 0 .answer) × (r .«listing_words» ≡ «listing_words») ⌝ }
 {

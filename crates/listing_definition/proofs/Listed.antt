@@ -1,18 +1,16 @@
 -- The listing lists the slot's variable and all that it leads to, each once. Assumes nothing.
-use Prim.Native.Nat.{ℕ, suc, _<_}
+use Prim.Native.Nat.{ℕ, suc}
 use mathlib.Core.Path.{refl}
 use mathlib.Core.Logic.{inl, inr}
-use mathlib.Core.List.{List, [], _∷_, flatMap, reverse, List·Memᴰ, List·Memᴰ·head, List·Memᴰ·not-nil, List·Memᴰ·cases-cons, Memᴰ·cast}
+use mathlib.Core.List.{List, [], _∷_, flatMap, reverse, List·Memᴰ·head, List·Memᴰ·not-nil, List·Memᴰ·cases-cons, Memᴰ·cast}
 use native.Mathlib.Omega.{arith}
 use lib.ListN.{length}
-use Rattle.image.specs.Ty.{variables}
-use Rattle.unifier_definition.specs.Log.{Binding, lookup}
-use Rattle.unifier_definition.specs.Leads.{Leads, leads-now, leads-on}
+use Rattle.unifier_definition.specs.Log.{Binding}
 use Rattle.run_definition.specs.Tables.{written-binding}
 use Rattle.listing_definition.specs.Listing.{listed-from}
-use Rattle.listing_definition.specs.Exactly.{Led, once-none, Lists-exactly}
+use Rattle.listing_definition.specs.Exactly.{once-none, Lists-exactly}
 use Rattle.listing_definition.proofs.Members.{member-of-reverse, member-in-reverse, once-reverse}
-use Rattle.listing_definition.proofs.Unlisted.{bound-row, unlisted-short}
+use Rattle.listing_definition.proofs.Unlisted.{unlisted-short}
 use Rattle.listing_definition.proofs.Followed.{Followed, follow-ends, followed-first, followed-on}
 
 -- at first the slot's own variable is pending
@@ -49,17 +47,3 @@ turned xs e =
 pub follow-exactly : (bs : List Binding) (slot : ℕ) → Lists-exactly bs slot (listed-from bs slot)
 unfolding listed-from
 follow-exactly bs slot = turned _ (last (follow-ends (suc (length (flatMap written-binding bs))) bs slot (slot ∷ []) [] (omega (arith, unlisted-short bs)) (first bs slot)))
-
-module _ (bs : List Binding) (slots : ℕ) (small : (b : Binding) → List·Memᴰ b bs → (x : ℕ) → List·Memᴰ x (variables (b .type)) → x < slots) where
-  leads-below : {x y : ℕ} → Leads (lookup bs) x y → y < slots
-  leads-below {x} {y} (leads-now {t = t} e m) = small (record { slot = x; type = t }) (bound-row bs x t e) y (m .among)
-  leads-below (leads-on e m l) = leads-below l
-
--- variables below a number in the rows, variables below it listed
-pub listed-below : (bs : List Binding) (slots slot : ℕ) → slot < slots → ((b : Binding) → List·Memᴰ b bs → (x : ℕ) → List·Memᴰ x (variables (b .type)) → x < slots)
-    → (x : ℕ) → List·Memᴰ x (listed-from bs slot) → x < slots
-listed-below bs slots slot l small x m = go (follow-exactly bs slot .only x m)
-  where
-    go : Led bs slot x → x < slots
-    go (inl e) = omega arith
-    go (inr k) = leads-below bs slots small k

@@ -5,6 +5,7 @@ use mathlib.Core.List.{List, []}
 use native.Mathlib.Omega.{arith}
 use lib.ListN.{length}
 use lib.Dec.{ltb, leb}
+use borrow.Author.Tests.{ltb-true, ltb-false, leb-false}
 use Rattle.image.specs.Check.{check}
 use Rattle.image.specs.Program.{Program, program}
 use Rattle.unifier_definition.specs.Log.{Binding}
@@ -33,13 +34,16 @@ by-number zero f g = f refl
 by-number (suc k) f g = g k refl
 
 -- after a run that is done: the numbers, and the listing where none refuses
-with-number : (bs : List Binding) (slot lent : ℕ) (o : Output) → Run-number (o .answer .number) → Listing-number (listing-with bs slot lent o .answer .number)
+with-number : (bs : List Binding) (slot lent : ℕ) (o : Output) → Run-number (o .answer .number) → o .answer .number ≡ 0
+    → Listing-number o slot (length (listing-of bs slot)) lent (listing-with bs slot lent o .answer .number)
 unfolding listing-with with-more refused-more refusal
-with-number bs slot lent o r =
+with-number bs slot lent o r z =
     by-bool (ltb slot (o .answer .slots))
     (λ e.
-    by-bool (leb (length (listing-of bs slot)) lent) (λ f. rw (e, f, listing-with) (number-run r)) (λ f. rw (e, f, listing-with) number-18))
-    (λ e. rw (e, listing-with) number-17)
+    by-bool (leb (length (listing-of bs slot)) lent)
+    (λ f. rw (e, f, listing-with) (number-run r))
+    (λ f. rw (e, f, listing-with) (number-18 z (ltb-true slot (o .answer .slots) e) (leb-false (length (listing-of bs slot)) lent f))))
+    (λ e. rw (e, listing-with) (number-17 z (ltb-false slot (o .answer .slots) e)))
 
 with-done : (bs : List Binding) (slot lent : ℕ) (o : Output) → listing-with bs slot lent o .answer .number ≡ 0 → listing-with bs slot lent o ≡ with-more o (listing-of bs slot)
 unfolding listing-with with-more refused-more refusal
@@ -52,16 +56,18 @@ with-done bs slot lent o z =
     (λ e. let q : _≡_ {A = ℕ} 17 0 = rw (e, listing-with) at z in absurd (omega arith))
 
 module _ (img bytes : List ℕ) (budget work lent slot llen : ℕ) where
-  -- a listing of a run that passed the check ends in 0, in 11 to 14, or in 17 or 18
-  pub listing-number : check img bytes budget work ≡ 0 → Listing-number (listing img bytes budget work lent slot llen .answer .number)
+  -- a listing of a run that passed the check ends as its run does, or in 17 or 18
+  pub listing-number : check img bytes budget work ≡ 0
+      → Listing-number (infer img bytes budget work lent) slot (length (listing-of (table-of img bytes budget) slot)) llen (listing img bytes budget work lent slot llen .answer .number)
   unfolding listing with-more
   listing-number e =
       let o = infer img bytes budget work lent in
+      let bs = table-of img bytes budget in
       let r = run-number img bytes budget work lent e in
-      let next = listing-with (table-of img bytes budget) slot llen o in
+      let next = listing-with bs slot llen o in
       by-number (o .answer .number)
-      (λ z. subst (λ (m : With-more). Listing-number (m .answer .number)) (sym (after-done o next z)) (with-number (table-of img bytes budget) slot llen o r))
-      (λ n z. subst (λ (m : With-more). Listing-number (m .answer .number)) (sym (after-refused o next n z)) (number-run r))
+      (λ z. subst (λ (m : With-more). Listing-number o slot (length (listing-of bs slot)) llen (m .answer .number)) (sym (after-done o next z)) (with-number bs slot llen o r z))
+      (λ n z. subst (λ (m : With-more). Listing-number o slot (length (listing-of bs slot)) llen (m .answer .number)) (sym (after-refused o next n z)) (number-run r))
 
   -- the run of a listing that is given is done
   pub run-first : listing img bytes budget work lent slot llen .answer .number ≡ 0 → infer img bytes budget work lent .answer .number ≡ 0
@@ -80,11 +86,6 @@ module _ (img bytes : List ℕ) (budget work lent slot llen : ℕ) where
       let o = infer img bytes budget work lent in
       let d = after-done o (listing-with (table-of img bytes budget) slot llen o) (run-first z) in
       d ∙ with-done (table-of img bytes budget) slot llen o (sym (ap (λ (m : With-more). m .answer .number) d) ∙ z)
-
-  pub tables-first : listing img bytes budget work lent slot llen .answer .number ≡ 0
-      → (listing img bytes budget work lent slot llen .answer ≡ infer img bytes budget work lent .answer) × (listing img bytes budget work lent slot llen .tables ≡ infer img bytes budget work lent .tables)
-  unfolding with-more
-  tables-first z = (ap (λ (m : With-more). m .answer) (listing-done z), ap (λ (m : With-more). m .tables) (listing-done z))
 
 -- the listing of the bindings of sound tables
 more-sound : {p : Program} {o : Output} (slot : ℕ) (bs : List Binding) (t : Tables-sound p o) → bs ≡ t .bindings → Listing-sound p slot (with-more o (listing-of bs slot))

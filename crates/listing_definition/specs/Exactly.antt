@@ -1,5 +1,5 @@
 -- What 2.3 promises of a listing beside its words. Assumes nothing.
-use Prim.Native.Nat.{ℕ}
+use Prim.Native.Nat.{ℕ, _≤_, _<_}
 use mathlib.Core.Path.{_≡_}
 use mathlib.Core.Logic.{_⊎_}
 use mathlib.Core.List.{List, [], _∷_, flatMap, List·Memᴰ}
@@ -37,8 +37,9 @@ pub record Listing-sound (p : Program) (slot : ℕ) (m : With-more) : Type 0 whe
   pub rows : m .more ≡ flatMap (listing-row (tables .bindings)) listed
   pub exactly : Lists-exactly (tables .bindings) slot listed
 
--- "A run asked for more than its tables .. may also end in that request's own numbers"
-pub data Listing-number : ℕ → Type 0 where
-  number-run : {n : ℕ} → Run-number n → Listing-number n
-  number-17 : Listing-number 17
-  number-18 : Listing-number 18
+-- "A run asked for more than its tables .. may also end in that request's own numbers, by their tests alone; the rule that no run is
+-- stuck reads so": the number of a listing, by its run, the slot, and the words that it wants and is lent
+pub data Listing-number (o : Output) (slot wanted lent : ℕ) : ℕ → Type 0 where
+  number-run : Run-number (o .answer .number) → Listing-number o slot wanted lent (o .answer .number)
+  number-17 : o .answer .number ≡ 0 → o .answer .slots ≤ slot → Listing-number o slot wanted lent 17
+  number-18 : o .answer .number ≡ 0 → slot < o .answer .slots → lent < wanted → Listing-number o slot wanted lent 18

@@ -45,6 +45,16 @@ of-c table-length slot listing-length m = record { image = image-c; budget = 102
 image-chain : Sketch
 image-chain = plain 3 [] 2 (block [] (load-local 1 0 ∷ primitive 0 ∷ []) none ∷ [])
 
+-- slot 1 is what slot 0 returns, a Primitive; the call makes slot 3
+image-call : Sketch
+image-call = plain 3 [] 2 (block [] (call 1 0 ∷ primitive 1 ∷ []) none ∷ [])
+
+of-call : (slot : ℕ) → With-more → Call
+of-call slot m = record { image = image-call; budget = 1024; table-length = 4096; slot = slot; listing-length = 7; gives = m }
+
+output-call : Output
+output-call = done-in 21 (func false NONE prim ∷ prim ∷ var 2 ∷ var 3 ∷ []) (0 ≔ func false NONE (var 3) ∷ 1 ≔ var 3 ∷ 3 ≔ prim ∷ [])
+
 calls : List Call
 calls =
     -- "write its own variable and those followed from it, one row each of slot and binding as in the tables": slots 1, 0 and 2, as many
@@ -79,11 +89,15 @@ calls =
       listing-length = 5;
       gives = with-more (done-in 13 (prim ∷ prim ∷ var 2 ∷ []) (0 ≔ prim ∷ 1 ≔ var 0 ∷ [])) (1 ∷ 0 ∷ 0 ∷ 0 ∷ 1 ∷ []);
     }
+    -- a slot that the run made, under the one that leads to it and by itself; the one after it is outside
+    ∷ of-call 0 (with-more output-call (0 ∷ 5 ∷ NONE ∷ 0 ∷ 3 ∷ 3 ∷ 1 ∷ []))
+    ∷ of-call 3 (with-more output-call (3 ∷ 1 ∷ []))
+    ∷ of-call 4 (refused-more 17 21 0)
     ∷ []
 
 -- the definition gives every call its answer
 calls-hold : map run calls ≡ map (λ c. c .gives) calls
-unfolding compute sketch-compute listing-compute run image-c output-c of-c image-chain calls
+unfolding compute sketch-compute listing-compute run image-c output-c of-c image-chain image-call of-call output-call calls
 calls-hold = refl
 
 -- bindings, a slot, and the words of its listing

@@ -1,19 +1,21 @@
 -- The variables of a type are pushed node by node, the operands of a Phi from right to left. Assumes nothing.
 use Prim.Native.Nat.{ℕ, zero, suc, _+_, _-_, _≤_, _<_}
-use native.Mathlib.Nat.{add-zero, le-refl}
+use native.Mathlib.Nat.{le-refl}
 use native.Mathlib.Omega.{arith}
 use mathlib.Core.Path.{_≡_, refl, sym, ap, subst, _∙_}
 use mathlib.Core.List.{List, [], _∷_, _++_, flatMap, List·Memᴰ, List·Memᴰ·cases-cons, List·Memᴰ·not-nil, List·Memᴰ·append-cases}
 use mathlib.Core.Logic.{inl, inr}
 use lib.ListN.{length, getD, set, drop, length-set, length-append, drop-of-length-le}
 use lib.Seq.{drop-cons, getD-set-same, getD-set-other}
-use Rattle.image.specs.Ty.{Ty, poly, Tys, nil, cons, count-of, variables, variables-all}
+use Rattle.image.specs.Ty.{Ty, poly, Tys, nil, cons, variables, variables-all}
 use Rattle.unifier_nodes.specs.Work.{at, leaf-prim, leaf-poly, leaf-method, leaf-object, Rep, rep-var, rep-leaf, rep-func, rep-phi, Reps, reps-nil, reps-cons}
 use Rattle.unifier_nodes.specs.Walks.{Stands, Reads-node}
+use Rattle.unifier_nodes.specs.Operands.{Operands}
 use Rattle.unifier_nodes.proofs.Frames.{rep-same}
+use Rattle.unifier_nodes.proofs.OperandLists.{Alone, list-of, list-length, operands-of}
 use Rattle.unifier_nodes.specs.declared.node.Node.{Node}
 use Rattle.unifier_nodes.specs.declared.node.Node.the-variants.{Var, Primitive, Poly, ObjectMethod, Object, Function, Phi}
-use Rattle.listing_walk.specs.Walk.{stacked-none, stacked-some, Pushed, Push-asked, Pushes, Operand, Operands, Push-all-asked, Pushes-all}
+use Rattle.listing_walk.specs.Walk.{stacked-none, stacked-some, Pushed, Push-asked, Pushes, Push-all-asked, Pushes-all}
 use Rattle.listing_walk.proofs.Stacks.{stacked-length, stacked-same, stacked-over}
 
 -- the variables of a type that a node stands for are slots
@@ -34,33 +36,11 @@ mutual
   reps-low-variables (reps-cons {t = t} o h e l r rs) y m =
       elim (List·Memᴰ·append-cases (variables t) m) [ inl k ↦ rep-low-variables r y k | inr k ↦ reps-low-variables rs y k ]
 
--- operands as a list
-pub list-of : Tys → List Ty
-list-of nil = []
-list-of (cons t ts) = t ∷ list-of ts
-
-list-length : (ts : Tys) → length (list-of ts) ≡ count-of ts
-unfolding list-of count-of
-list-length nil = refl
-list-length (cons t ts) = ap suc (list-length ts)
-
+-- the variables of operands
 list-variables : (ts : Tys) → variables-all ts ≡ flatMap variables (list-of ts)
 unfolding list-of variables flatMap
 list-variables nil = refl
 list-variables (cons t ts) = ap (λ (ws : List ℕ). variables t ++ ws) (list-variables ts)
-
-operands-cons : {w : List ℕ} {lo top last a : ℕ} {t : Ty} {ts : List Ty} → Operand w lo top last a t → Operands w lo top last (a + 1) ts → Operands w lo top last a (t ∷ ts)
-operands-cons {w} {lo} {top} {last} {a} {t} {ts} h r = record { each = each }
-  where
-    each : (i : ℕ) → i < length (t ∷ ts) → Operand w lo top last (a + i) (getD (t ∷ ts) i poly)
-    each zero q = subst (λ (p : ℕ). Operand w lo top last p t) (sym (add-zero a)) h
-    each (suc i) q = subst (λ (p : ℕ). Operand w lo top last p (getD ts i poly)) (omega arith) (r .each i (omega arith))
-
-operands-of : {w : List ℕ} {lo top last lim a : ℕ} {ts : Tys} → lim ≤ top → Reps w lo top last lim a ts → Operands w lo top last a (list-of ts)
-unfolding list-of
-operands-of l reps-nil = record { each = λ i q. absurd (omega arith) }
-operands-of {w} {lo} {top} l (reps-cons {t = t} o h e b r rs) =
-    operands-cons (record { inside = omega arith; below = omega arith; rep = subst (λ (x : ℕ). Rep w lo top x t) (sym e) r }) (operands-of l rs)
 
 -- nothing is pushed
 pub pushed-none : (w : List ℕ) (end : ℕ) → Pushed w w [] end end
@@ -96,15 +76,6 @@ alone ObjectMethod = []
 alone (Object s) = []
 alone (Function k s m) = []
 alone (Phi a c) = []
-
-abbrev pub Alone : Node → Type 0
-Alone (Function k s m) = ⊥
-Alone (Phi a c) = ⊥
-Alone (Var s) = Unit {0}
-Alone Primitive = Unit {0}
-Alone Poly = Unit {0}
-Alone ObjectMethod = Unit {0}
-Alone (Object s) = Unit {0}
 
 module _ {w : List ℕ} {lo n end : ℕ} (A : Push-asked w lo n end) where
   -- the words to be written lie past the node

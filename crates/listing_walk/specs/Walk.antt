@@ -5,10 +5,11 @@ use mathlib.Core.Bool.{Bool, true, false}
 use mathlib.Core.List.{List, [], _∷_, _++_, flatMap, List·Memᴰ}
 use lib.ListN.{length, getD}
 use lib.Dec.{ltb}
-use Rattle.image.specs.Ty.{Ty, poly, variables}
+use Rattle.image.specs.Ty.{Ty, variables}
 use Rattle.image.specs.Nesting.{member}
 use Rattle.unifier_definition.specs.Log.{Binding}
 use Rattle.unifier_nodes.specs.Work.{at, Rep, Good}
+use Rattle.unifier_nodes.specs.Operands.{Operands}
 use Rattle.run_definition.specs.Tables.{written-binding}
 use Rattle.run_layout.specs.declared.Layout.{Layout}
 use Rattle.listing_definition.specs.Listing.{inside, listed-from}
@@ -67,16 +68,6 @@ pub record Push-asked (w : List ℕ) (lo n end : ℕ) : Type 0 where
 -- and what it promises
 pub record Pushes (w w′ : List ℕ) (lo n end r : ℕ) : Type 0 where
   pub is : (t : Ty) → Rep w lo end n t → Pushed w w′ (variables t) end r
-
--- the word at p, below `top`, is the number, below `last`, of a node that stands for t
-pub record Operand (w : List ℕ) (lo top last p : ℕ) (t : Ty) : Type 0 where
-  pub inside : p < top
-  pub below : at w p < last
-  pub rep : Rep w lo top (at w p) t
-
--- the words from a on are such numbers, of these types
-pub record Operands (w : List ℕ) (lo top last a : ℕ) (ts : List Ty) : Type 0 where
-  pub each : (i : ℕ) → i < length ts → Operand w lo top last (a + i) (getD ts i poly)
 
 -- the same of `push_operands`
 pub record Push-all-asked (w : List ℕ) (lo last a c end : ℕ) : Type 0 where

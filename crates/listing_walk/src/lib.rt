@@ -2,6 +2,7 @@
 ghost use mathlib.Core.Path.{_≡_};
 ghost use Prim.Native.Nat.{ℕ};
 ghost use Rattle.listing_walk.specs.Walk.{order-at, mark-at, Places, Placed, Push-asked, Pushes, Push-all-asked, Pushes-all, Seek-asked, Seeks, List-asked, Lists-one, Lists-asked, Lists-all};
+use image::TypeId;
 use run_layout::Layout;
 use unifier_nodes::node::Node;
 use unifier_nodes::node::node_at;
@@ -15,26 +16,26 @@ pub fn order_of(lay: Layout) -> u32
 }
 
 // Where a listed variable's place among them stands: after the slots' types, or that of a made slot over the first half of the names log.
-fn mark_of(lay: Layout, x: u32) -> u32
-    requires { ⌜ Placed lay x ⌝ }
-    ensures { λ r. ⌜ r ≡ mark-at lay x ⌝ }
+fn mark_of(lay: Layout, x: TypeId) -> u32
+    requires { ⌜ Placed lay (x .0) ⌝ }
+    ensures { λ r. ⌜ r ≡ mark-at lay (x .0) ⌝ }
 {
-    if x < lay.slots {
-        return lay.entries + lay.slots + x;
+    if x.0 < lay.slots {
+        return lay.entries + lay.slots + x.0;
     }
-    lay.log + (x - lay.slots)
+    lay.log + (x.0 - lay.slots)
 }
 
 // Whether a variable is one of the n listed. What stands at the mark of one that is not may be any word.
-fn is_listed(w: &[u32], lay: Layout, n: u32, x: u32) -> bool
-    requires { ⌜ Seek-asked (now w) lay n x ⌝ }
-    ensures { λ r. ⌜ Seeks (now (w .entry)) lay n x r ⌝ }
+fn is_listed(w: &[u32], lay: Layout, n: u32, x: TypeId) -> bool
+    requires { ⌜ Seek-asked (now w) lay n (x .0) ⌝ }
+    ensures { λ r. ⌜ Seeks (now (w .entry)) lay n (x .0) r ⌝ }
 {
     let k = w[mark_of(lay, x) as usize];
     if k >= n {
         return false;
     }
-    w[order_of(lay) as usize + k as usize] == x
+    w[order_of(lay) as usize + k as usize] == x.0
 }
 
 // The variables of a type put at the end of those pending, the leftmost last: it is the next. Gives their new end.
@@ -72,13 +73,13 @@ fn push_operands(w: &mut [u32], lo: u32, last: u32, at: u32, count: u32, from: u
 }
 
 // A variable listed as the next after n, and those in its binding pending.
-fn list_variable(w: &mut [u32], lay: Layout, n: u32, x: u32, end: u32) -> u32
-    requires { ⌜ List-asked (now w) lay n x end ⌝ }
-    ensures { λ r. ⌜ Lists-one (now (w .entry)) (now (w .exit)) lay n x end r ⌝ }
+fn list_variable(w: &mut [u32], lay: Layout, n: u32, x: TypeId, end: u32) -> u32
+    requires { ⌜ List-asked (now w) lay n (x .0) end ⌝ }
+    ensures { λ r. ⌜ Lists-one (now (w .entry)) (now (w .exit)) lay n (x .0) end r ⌝ }
 {
     w[mark_of(lay, x) as usize] = n;
-    w[order_of(lay) as usize + n as usize] = x;
-    let b = w[x as usize];
+    w[order_of(lay) as usize + n as usize] = x.0;
+    let b = w[x.0 as usize];
     if b == 0 {
         return end;
     }
@@ -90,11 +91,11 @@ pub fn list_variables(w: &mut [u32], lay: Layout, slot: u32) -> u32
     requires { ⌜ Lists-asked (now w) lay slot ⌝ }
     ensures { λ r. ⌜ Lists-all (now (w .entry)) (now (w .exit)) lay slot r ⌝ }
 {
-    let mut end = list_variable(w, lay, 0, slot, lay.stack);
+    let mut end = list_variable(w, lay, 0, TypeId(slot), lay.stack);
     let mut n: u32 = 1;
     while end > lay.stack {
         end -= 1;
-        let x = w[end as usize];
+        let x = TypeId(w[end as usize]);
         if !is_listed(w, lay, n, x) {
             end = list_variable(w, lay, n, x, end);
             n += 1;

@@ -53,7 +53,7 @@ module _ {img bytes w w′ : List ℕ} {budget lent : ℕ} {r : Solved} (S : Sol
   solved-output = sym (ap (λ a. a .number) (S .answers)) ∙ z
 
   -- there are as many types as slots
-  many : length (solved .final .types) ≡ r .answer .slots
+  pub many : length (solved .final .types) ≡ r .answer .slots
   many = ap length (solved .whole) ∙ types-many (solved .resolved)
 
   pub solved-bindings : bindings-of outcome ≡ slot-bindings

@@ -26,7 +26,7 @@ use Rattle.run_definition.specs.Infer.{Final, registry, infer-types, refusal, o
 use Rattle.run_layout.specs.Layout.{Prepared, Lay-asked, Lays-out}
 use Rattle.run_walk.specs.Running.{none-logged, Ready, Ran, Generates}
 use Rattle.run_answer.specs.Lent.{answer-of, cleared}
-use Rattle.run_tables.specs.Standing.{Slots-stand, all-types, Resolved-run, Finish-asked, Finishes}
+use Rattle.run_tables.specs.Standing.{Slots-stand, all-types, Resolved-run, Answer-asked, Answers-tables}
 use Rattle.run_apply.specs.Applying.{Applying, Applies, Resolved-to}
 use Rattle.run_solve.specs.Solve.{first-walk, Run-asked, Stands-solved, Solves}
 use Rattle.run_layout.specs.declared.Layout.{Layout}
@@ -260,8 +260,8 @@ module _ {img bytes w w₀ w₁ : List ℕ} {budget : ℕ} {lay : Layout} (b : B
               }
 
           -- what `table_answer` asks
-          pub finish-asked : Finish-asked w₃ lay (g .next)
-          finish-asked = record {
+          pub answer-asked : Answer-asked w₃ lay (g .next)
+          answer-asked = record {
             σ = σ;
             types = types;
             resolved = resolved-run;
@@ -279,7 +279,7 @@ module _ {img bytes w w₀ w₁ : List ℕ} {budget : ℕ} {lay : Layout} (b : B
               ∙ ap₂ (λ x m. with-tables lent (budget - a .left) (counts-of (g .counts)) x (binding-rows σ m)) all-are rows-are
 
           -- its answer, which has every slot where the tables have room
-          module _ {lent : ℕ} {r : Answered} (h : Finishes w₃ lay (g .next) (budget - a .left) (g .counts) lent r) where
+          module _ {lent : ℕ} {r : Answered} (h : Answers-tables w₃ lay (g .next) (budget - a .left) (g .counts) lent r) where
             answers : answer-of r ≡ with-tables lent (budget - a .left) (counts-of (g .counts)) (all-types lay (g .next) types) (binding-rows σ (g .next)) .answer
             answers = h .answers σ types resolved-run
 

@@ -11,7 +11,7 @@ use run_layout::Layout;
 use run_walk::Walk;
 use unifier_counts::Counts;
 
-// The answer that the run's tables have, and where its final state stands.
+// The answer of the run with its tables, and where its final state stands.
 pub struct Solved {
     pub answer: Answer,
     pub lay: Layout,
@@ -40,7 +40,8 @@ fn first_walk(budget: u32, lay: Layout) -> Walk
     }
 }
 
-// Equations and visits of an image that passed the check, in as many work words as it takes, for so many table words.
+// Equations and visits of an image that passed the check, in as many work words as it takes. The answer is that with so many table
+// words lent; none is written.
 pub fn solve(img: &[u32], bytes: &[u8], budget: u32, w: &mut [u32], table_words: usize) -> Solved
     requires { ⌜ Run-asked (now img) (now bytes) budget (now w) ⌝ }
     ensures { λ r. ⌜ Solves (now (img .entry)) (now (bytes .entry)) budget (now (w .entry)) (now (w .exit)) «table_words» r ⌝ }
@@ -66,12 +67,19 @@ pub fn solve(img: &[u32], bytes: &[u8], budget: u32, w: &mut [u32], table_words:
             at: 0,
         },
     );
-    let after = a.left;
-    let again = a.refused;
-    if again != 0 {
-        let answer = refusal(again, budget - after, 0);
+    let left_after = a.left;
+    let refused_after = a.refused;
+    if refused_after != 0 {
+        let answer = refusal(refused_after, budget - left_after, 0);
         return Solved { answer, lay };
     }
-    let answer = run_tables::table_answer(w, lay, budget - after, g.next, g.counts, table_words);
+    let answer = run_tables::table_answer(
+        w,
+        lay,
+        budget - left_after,
+        g.next,
+        g.counts,
+        table_words,
+    );
     Solved { answer, lay }
 }

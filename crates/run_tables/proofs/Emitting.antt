@@ -1,18 +1,20 @@
 -- A type is put out node by node: its first words, then what is inside. Assumes nothing.
-use Prim.Native.Nat.{ℕ, zero, suc, _+_, _≤_, _<_}
+use Prim.Native.Nat.{ℕ, _+_, _≤_, _<_}
 use mathlib.Core.Path.{_≡_, refl, sym, ap, ap₂, _∙_, subst}
 use mathlib.Core.List.{List, [], _∷_, _++_, flatMap}
-use native.Mathlib.Nat.{add-zero, le-refl}
+use native.Mathlib.Nat.{le-refl}
 use native.Mathlib.Numerals.{add-one}
 use native.Mathlib.Omega.{arith}
 use lib.ListN.{length, getD, drop, drop-of-length-le}
 use lib.Seq.{drop-cons}
-use Rattle.image.specs.Ty.{Ty, poly, Tys, nil, cons, count-of, written, written-all}
-use Rattle.unifier_nodes.specs.Work.{at, Rep, Reps, reps-nil, reps-cons}
+use Rattle.image.specs.Ty.{Ty, poly, Tys, nil, cons, written, written-all}
+use Rattle.unifier_nodes.specs.Work.{at, Rep}
 use Rattle.unifier_nodes.specs.Walks.{Stands, Reads-node}
+use Rattle.unifier_nodes.specs.Operands.{Operands}
+use Rattle.unifier_nodes.proofs.OperandLists.{Alone, list-of, list-length, operands-of}
 use Rattle.unifier_nodes.specs.declared.node.Node.{Node}
 use Rattle.unifier_nodes.specs.declared.node.Node.the-variants.{Var, Primitive, Poly, ObjectMethod, Object, Function, Phi}
-use Rattle.run_tables.specs.Writing.{Sink, Target, writing, Held, Row, Asks, Emits, Asks-row, Emits-row}
+use Rattle.run_tables.specs.Writing.{Sink, Target, writing, Asks, Emits, Asks-row, Emits-row}
 use Rattle.run_tables.proofs.Sinks.{Lawful, emit-length, room-first, room-second, emit-both}
 
 -- the first words of a node's type: all of them, but for a Function and a Phi
@@ -25,43 +27,10 @@ front (Object s) = 4 ∷ s ∷ []
 front (Function k s m) = k ∷ s ∷ []
 front (Phi a c) = 7 ∷ c ∷ []
 
--- a node with nothing inside
-abbrev pub Alone : Node → Type 0
-Alone (Var s) = Unit {0}
-Alone Primitive = Unit {0}
-Alone Poly = Unit {0}
-Alone ObjectMethod = Unit {0}
-Alone (Object s) = Unit {0}
-Alone (Function k s m) = ⊥
-Alone (Phi a c) = ⊥
-
--- operands as a list
-pub list-of : Tys → List Ty
-list-of nil = []
-list-of (cons t ts) = t ∷ list-of ts
-
-list-length : (ts : Tys) → length (list-of ts) ≡ count-of ts
-unfolding list-of count-of
-list-length nil = refl
-list-length (cons t ts) = ap suc (list-length ts)
-
 list-written : (ts : Tys) → written-all ts ≡ flatMap written (list-of ts)
 unfolding list-of written flatMap
 list-written nil = refl
 list-written (cons t ts) = ap (λ (ws : List ℕ). written t ++ ws) (list-written ts)
-
-row-cons : {w : List ℕ} {lo last a : ℕ} {t : Ty} {ts : List Ty} → Held w lo last a t → Row w lo last (a + 1) ts → Row w lo last a (t ∷ ts)
-row-cons {w} {lo} {last} {a} {t} {ts} h r = record { each = each }
-  where
-    each : (i : ℕ) → i < length (t ∷ ts) → Held w lo last (a + i) (getD (t ∷ ts) i poly)
-    each zero q = subst (λ (p : ℕ). Held w lo last p t) (sym (add-zero a)) h
-    each (suc i) q = subst (λ (p : ℕ). Held w lo last p (getD ts i poly)) (omega arith) (r .each i (omega arith))
-
-row-of : {w : List ℕ} {lo last lim a : ℕ} {ts : Tys} → lim ≤ length w → Reps w lo (length w) last lim a ts → Row w lo last a (list-of ts)
-unfolding list-of
-row-of l reps-nil = record { each = λ i h. absurd (omega arith) }
-row-of {w} {lo} l (reps-cons {t = t} o h e b r rs) =
-    row-cons (record { inside = omega arith; below = omega arith; rep = subst (λ (x : ℕ). Rep w lo (length w) x t) (sym e) r }) (row-of l rs)
 
 module _ {w : List ℕ} {lo n : ℕ} where
   -- a type by its node
@@ -84,14 +53,14 @@ module _ {w : List ℕ} {lo n : ℕ} where
       (q .1, ap written (q .2) ∙ ap (λ (x : ℕ). x ∷ s ∷ written (q .1)) (sym (q .3)), q .4, q .5)
 
   shown-phi : {a c : ℕ} {t : Ty} → Reads-node w lo n (Phi a c) → Rep w lo (length w) n t
-      → (ts : List Ty) × (written t ≡ (7 ∷ c ∷ []) ++ flatMap written ts) × (length ts ≡ c) × Row w lo n a ts
+      → (ts : List Ty) × (written t ≡ (7 ∷ c ∷ []) ++ flatMap written ts) × (length ts ≡ c) × Operands w lo (length w) n a ts
   unfolding written
   shown-phi {a} {c} {t} h r =
       let q = h .shows (length w) t (le-refl _) r in (
         list-of (q .0),
         ap written (q .1) ∙ ap₂ (λ (x : ℕ) (ws : List ℕ). 7 ∷ x ∷ ws) (sym (q .2)) (list-written (q .0)),
         list-length (q .0) ∙ sym (q .2),
-        row-of (le-refl _) (q .3),
+        operands-of (le-refl _) (q .3),
       )
 
   module _ {S : Type 0} {k : Sink S} where
@@ -142,10 +111,10 @@ next-written ts i l = rw (add-one, drop-cons ts i poly l)
 
 -- the loop over c nodes, i of which are put out: what is left gives what all give, and has room
 pub record Listed {S : Type 0} (k : Sink S) (w : List ℕ) (lo last a c : ℕ) (s₀ s : S) (i : ℕ) : Type 0 where
-  pub left : (ts : List Ty) → length ts ≡ c → Row w lo last a ts → k .emit s (flatMap written (drop i ts)) ≡ k .emit s₀ (flatMap written ts)
+  pub left : (ts : List Ty) → length ts ≡ c → Operands w lo (length w) last a ts → k .emit s (flatMap written (drop i ts)) ≡ k .emit s₀ (flatMap written ts)
   pub ts : List Ty
   pub many : length ts ≡ c
-  pub row : Row w lo last a ts
+  pub row : Operands w lo (length w) last a ts
   pub room : k .room s (length (flatMap written (drop i ts)))
 
 module _ {S : Type 0} {k : Sink S} {w : List ℕ} {lo last a c : ℕ} {s₀ : S} where

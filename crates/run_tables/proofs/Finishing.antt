@@ -9,15 +9,16 @@ use Rattle.image.specs.Ty.{Ty, var, poly, written}
 use Rattle.image.specs.Program.{tabulate-from}
 use Rattle.unifier_definition.specs.Log.{Log}
 use Rattle.unifier_nodes.specs.Work.{at, Rep, Good}
+use Rattle.unifier_nodes.specs.Operands.{Operands}
 use Rattle.unifier_nodes.proofs.Frames.{rep-same, rep-low, good-same}
 use Rattle.run_definition.specs.Tables.{made-types, binding-rows, written-binding, tables-of}
 use Rattle.run_answer.specs.Lent.{answer-of}
 use Rattle.run_answer.specs.declared.Answer.{Answer as Answered}
-use Rattle.run_tables.specs.Standing.{Resolved-run, all-types, Finishes}
+use Rattle.run_tables.specs.Standing.{Resolved-run, all-types, Answers-tables}
 use Rattle.unifier_counts.specs.Given.{counts-of}
 use Rattle.unifier_counts.specs.declared.Counts.{Counts}
 use Rattle.run_definition.specs.Infer.{refusal, with-tables}
-use Rattle.run_tables.specs.Writing.{Sink, counting, Row, Asks-row, Emits-row, Asks-bindings, Emits-bindings, Sizes}
+use Rattle.run_tables.specs.Writing.{Sink, counting, Asks-row, Emits-row, Asks-bindings, Emits-bindings, Sizes}
 use Rattle.run_layout.specs.declared.Layout.{Layout}
 use Rattle.run_tables.specs.declared.Size.{Size}
 use Rattle.run_definition.proofs.Lists.{tabulate-length}
@@ -47,7 +48,7 @@ module _ {w : List ℕ} {lay : Layout} {made : ℕ} {σ : Log} {types : List Ty}
   pub resolved-good : Good w (lay .lo) (length w) σ
   resolved-good = good-same w (length w) nodes-inside (λ k l h. refl) (R .good)
 
-  resolved-row : Row w (lay .lo) (length w) (lay .entries) types
+  resolved-row : Operands w (lay .lo) (length w) (length w) (lay .entries) types
   resolved-row =
       record {
         each = λ i l.
@@ -106,7 +107,7 @@ module _ {w : List ℕ} {lay : Layout} {made : ℕ} {σ : Log} {types : List Ty}
 
 module _ {w : List ℕ} {lay : Layout} {made : ℕ} {size : Size} (C : Sizes w lay made size) (steps : ℕ) (counts : Counts) (lent : ℕ) where
   -- the tables are longer than the lent words
-  pub too-long : lent < size .words → {r : Answered} → answer-of r ≡ refusal 14 steps (size .words) .answer → Finishes w lay made steps counts lent r
+  pub too-long : lent < size .words → {r : Answered} → answer-of r ≡ refusal 14 steps (size .words) .answer → Answers-tables w lay made steps counts lent r
   unfolding with-tables refusal
   too-long l a =
       record {
@@ -115,7 +116,7 @@ module _ {w : List ℕ} {lay : Layout} {made : ℕ} {size : Size} (C : Sizes w l
 
   -- or they can be written
   pub long-enough : size .words ≤ lent
-      → Finishes w lay made steps counts lent (record { number = 0; steps = steps; slots = made; bindings = size .bindings; «table_words» = size .words; exact = counts .exact; star = counts .star; hook = counts .hook; nothing = counts .nothing })
+      → Answers-tables w lay made steps counts lent (record { number = 0; steps = steps; slots = made; bindings = size .bindings; «table_words» = size .words; exact = counts .exact; star = counts .star; hook = counts .hook; nothing = counts .nothing })
   unfolding answer-of with-tables counts-of
   long-enough l =
       record {

@@ -36,13 +36,13 @@ unfoldable pub all-types : Layout → ℕ → List Ty → List Ty
 all-types lay made types = types ++ made-types (lay .slots) made
 
 -- what `table_answer` asks: words that stand for a finished run, whose tables' length fits a word
-pub record Finish-asked (w : List ℕ) (lay : Layout) (made : ℕ) : Type 0 where
+pub record Answer-asked (w : List ℕ) (lay : Layout) (made : ℕ) : Type 0 where
   pub σ : Log
   pub types : List Ty
   pub resolved : Resolved-run w lay made σ types
   pub few : length (tables-of (all-types lay made types) (binding-rows σ made)) < 2 ^ 32
 
 -- the contract of `table_answer`: the definition's answer, 14 included
-pub record Finishes (w : List ℕ) (lay : Layout) (made steps : ℕ) (counts : Counts) (lent : ℕ) (r : Answered) : Type 0 where
+pub record Answers-tables (w : List ℕ) (lay : Layout) (made steps : ℕ) (counts : Counts) (lent : ℕ) (r : Answered) : Type 0 where
   pub answers : (σ : Log) (types : List Ty) → Resolved-run w lay made σ types
       → answer-of r ≡ with-tables lent steps (counts-of counts) (all-types lay made types) (binding-rows σ made) .answer

@@ -2,11 +2,12 @@
 use Prim.Native.Nat.{ℕ, _+_, _^_, _≤_, _<_}
 use mathlib.Core.Path.{_≡_}
 use mathlib.Core.List.{List, flatMap}
-use lib.ListN.{length, getD}
+use lib.ListN.{length}
 use lib.Seq.{sets}
-use Rattle.image.specs.Ty.{Ty, poly, written}
+use Rattle.image.specs.Ty.{Ty, written}
 use Rattle.unifier_definition.specs.Log.{Log}
-use Rattle.unifier_nodes.specs.Work.{at, Rep, Good}
+use Rattle.unifier_nodes.specs.Work.{Rep, Good}
+use Rattle.unifier_nodes.specs.Operands.{Operands}
 use Rattle.run_definition.specs.Tables.{binding-rows, written-binding, tables-of}
 use Rattle.run_tables.specs.Standing.{Resolved-run, all-types}
 use Rattle.run_layout.specs.declared.Layout.{Layout}
@@ -38,16 +39,6 @@ writing =
 abbrev pub table : List ℕ → ℕ → Target
 table words next = record { words = words; next = next }
 
--- the word at p is the number, below `last`, of a node that stands for t
-pub record Held (w : List ℕ) (lo last p : ℕ) (t : Ty) : Type 0 where
-  pub inside : p < length w
-  pub below : at w p < last
-  pub rep : Rep w lo (length w) (at w p) t
-
--- the words from a on are such numbers, of these types
-pub record Row (w : List ℕ) (lo last a : ℕ) (ts : List Ty) : Type 0 where
-  pub each : (i : ℕ) → i < length ts → Held w lo last (a + i) (getD ts i poly)
-
 module _ {S : Type 0} (k : Sink S) (w : List ℕ) (lo : ℕ) where
   -- what is asked to put out a type: that node n stands for one, and that there is room for it
   pub record Asks (n : ℕ) (s : S) : Type 0 where
@@ -63,11 +54,11 @@ module _ {S : Type 0} (k : Sink S) (w : List ℕ) (lo : ℕ) where
   pub record Asks-row (last a c : ℕ) (s : S) : Type 0 where
     pub ts : List Ty
     pub many : length ts ≡ c
-    pub row : Row w lo last a ts
+    pub row : Operands w lo (length w) last a ts
     pub room : k .room s (length (flatMap written ts))
 
   pub record Emits-row (last a c : ℕ) (s s′ : S) : Type 0 where
-    pub is : (ts : List Ty) → length ts ≡ c → Row w lo last a ts → s′ ≡ k .emit s (flatMap written ts)
+    pub is : (ts : List Ty) → length ts ≡ c → Operands w lo (length w) last a ts → s′ ≡ k .emit s (flatMap written ts)
 
   -- the same of the bindings of the slots below `made`
   pub record Asks-bindings (made : ℕ) (s : S) : Type 0 where

@@ -5,7 +5,7 @@ ghost use Prim.Native.Nat.{_+_, _≤_};
 ghost use lib.ListN.{length};
 ghost use Rattle.image.specs.Ty.{written};
 ghost use Rattle.run_definition.specs.Tables.{made-types};
-ghost use Rattle.run_tables.specs.Standing.{Finish-asked, Finishes};
+ghost use Rattle.run_tables.specs.Standing.{Answer-asked, Answers-tables};
 ghost use Rattle.run_tables.specs.Writing.{counting, writing, table, Asks, Emits, Asks-row, Emits-row, Asks-bindings, Emits-bindings, Sizes-bindings, Sizes, Write-asked, Writes};
 use image::refusals;
 use image::type_kinds;
@@ -73,14 +73,14 @@ fn bindings_size(w: &[u32], lo: u32, made: u32, start: u32) -> Size
 }
 
 fn total_size(w: &[u32], lay: Layout, made: u32) -> Size
-    requires { ⌜ Finish-asked (now w) lay made ⌝ }
+    requires { ⌜ Answer-asked (now w) lay made ⌝ }
     ensures { λ r. ⌜ Sizes (now (w .entry)) lay made r ⌝ }
 {
     let words = list_size(w, lay.lo, w.len() as u32, lay.entries, lay.slots, 0);
     bindings_size(w, lay.lo, made, words + 2 * (made - lay.slots))
 }
 
-fn put_one(t: &mut [u32], at: usize, x: u32) -> usize
+pub fn put_one(t: &mut [u32], at: usize, x: u32) -> usize
     requires { ⌜ at + 1 ≤ length (now t) ⌝ }
     ensures { λ r. ⌜ table (now (t .exit)) r ≡ writing .emit (table (now (t .entry)) at) (x ∷ []) ⌝ }
 {
@@ -88,7 +88,7 @@ fn put_one(t: &mut [u32], at: usize, x: u32) -> usize
     at + 1
 }
 
-fn put_two(t: &mut [u32], at: usize, x: u32, y: u32) -> usize
+pub fn put_two(t: &mut [u32], at: usize, x: u32, y: u32) -> usize
     requires { ⌜ at + 2 ≤ length (now t) ⌝ }
     ensures { λ r. ⌜ table (now (t .exit)) r ≡ writing .emit (table (now (t .entry)) at) (x ∷ y ∷ []) ⌝ }
 {
@@ -190,8 +190,8 @@ pub fn table_answer(
     counts: Counts,
     lent: usize,
 ) -> Answer
-    requires { ⌜ Finish-asked (now w) lay made ⌝ }
-    ensures { λ r. ⌜ Finishes (now (w .entry)) lay made steps counts lent r ⌝ }
+    requires { ⌜ Answer-asked (now w) lay made ⌝ }
+    ensures { λ r. ⌜ Answers-tables (now (w .entry)) lay made steps counts lent r ⌝ }
 {
     let size = total_size(w, lay, made);
     let table_words = size.words;

@@ -5,3 +5,4 @@ pub mod Equalities
 pub mod Getting
 pub mod GetOperands
 pub mod Mentioning
+pub mod OperandLists

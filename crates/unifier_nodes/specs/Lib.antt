@@ -1,3 +1,4 @@
 pub mod Work
 pub mod Walks
 pub mod Promises
+pub mod Operands

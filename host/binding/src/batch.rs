@@ -1,5 +1,6 @@
 //! Lists of screens, many in one call of the library.
 
+use crate::listing::ListingAnswer;
 use crate::runner::{lend, Lent, Runner, GROWTH};
 use crate::stack::{stack_bytes, with_stack};
 use crate::{infer_batch_into, work_words, Answer, Image, Refusal, Tables, LIMIT};
@@ -198,7 +199,7 @@ impl Runner {
         left: usize,
     ) -> Result<Tables, Refusal> {
         let most = Lent { budget: screen.budget, table_words: left, ..Lent::default() };
-        if let Some(more) = screen.first_lent().more(answer.into(), most) {
+        if let Some(more) = screen.first_lent().more(ListingAnswer::of_run(answer), most) {
             return self.run(screen, more, most).cloned();
         }
         let refusal = Refusal::new(answer);

@@ -228,9 +228,10 @@ pub fn infer_batch_into(
 /// stack of the caller.
 ///
 /// The answer is that of `infer_types_into`; if that is done, the call may still be refused with `Refusal::SLOT`, or else
-/// with `Refusal::LISTING_WORDS`, which says how many are wanted. The listing stands from the first listing word on and
-/// is read by `ListingRows::new`. Words past those written keep what they held, a refusal writes no table or listing
-/// word, and work words and stack are as `infer_types_into` says.
+/// with `Refusal::LISTING_WORDS`, which says how many are wanted and never comes if four are lent for each step of the
+/// budget. The listing stands from the first listing word on and is read by `ListingRows::new`. Words past those written
+/// keep what they held, a refusal writes no table or listing word, and work words and stack are as `infer_types_into`
+/// says.
 pub fn infer_listing_into(
     image: &[u32],
     names: &[u8],

@@ -20,9 +20,9 @@ pub struct ListingAnswer {
     pub listing_words: u32,
 }
 
-impl From<Answer> for ListingAnswer {
+impl ListingAnswer {
     /// The answer of a run without a listing.
-    fn from(answer: Answer) -> ListingAnswer {
+    pub(crate) fn of_run(answer: Answer) -> ListingAnswer {
         ListingAnswer { answer, listing_words: 0 }
     }
 }
@@ -99,8 +99,8 @@ impl Runner {
     /// to. Both are there until the next run; clones stay.
     ///
     /// The answer is that of `Runner::infer_types`, or a refusal with `Refusal::SLOT` if the tables have no such slot.
-    /// Listing words are lent as they are needed. They have no limit of their own, for no listing is longer than twice
-    /// the tables.
+    /// Listing words are lent as they are needed. They have no limit of their own, for a listing has at most four words
+    /// for each step.
     ///
     /// ```
     /// # use infer_types::{Block, Body, Builder, Runner};

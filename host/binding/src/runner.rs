@@ -125,8 +125,8 @@ impl Runner {
 
     /// A run that is lent ever more, from the first on.
     pub(crate) fn run(&mut self, screen: &Screen, first: Lent, most: Lent) -> Result<&Tables, Refusal> {
-        let ListingAnswer { answer, .. } = lend_more(first, most, |lent| self.call(screen, lent).into());
-        self.read(answer, screen.image)
+        let answer = lend_more(first, most, |lent| ListingAnswer::of_run(self.call(screen, lent)));
+        self.read(answer.answer, screen.image)
     }
 
     /// Reads the tables that the last call left, if it succeeded.

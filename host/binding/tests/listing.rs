@@ -33,7 +33,7 @@ fn listed(tables: &Tables, slot: Slot) -> Vec<(Slot, Option<Inferred<'_>>)> {
     rows
 }
 
-/// Slots to ask for: all if there are few, else some; and one that is none.
+/// Slots to ask for: all if there are few, else some.
 fn slots(random: &mut Random, count: u32) -> Vec<Slot> {
     let some: Vec<u32> = if count <= 40 { (0..count).collect() } else { vec![0, count / 2, count - 1] };
     let any = (0..5).map(|_| random.below(count.max(1)));
@@ -46,13 +46,18 @@ fn starts_as_its_variable(image: &Image, slot: Slot) -> bool {
     start.is_none_or(|row| row[..2] == [type_kinds::VAR, slot.number()])
 }
 
+/// The lines of an explanation before the listing's: one more where the image gives the slot its type.
+fn lines_before(image: &Image, slot: Slot) -> usize {
+    1 + usize::from(!starts_as_its_variable(image, slot))
+}
+
 /// The runner's tables are those of a plain run, its listing is that by the tables, and what one call writes that is lent
 /// just enough; one listing word less is refused.
 fn compare(runner: &mut Runner, image: &Image, budget: u32, slot: Slot, tables: &Tables) {
     let (own, listing) = runner.infer_listing(&image.words, &image.names, budget, slot).expect("a listing");
     assert_eq!(own, tables);
     assert_eq!(listing.rows().collect::<Vec<_>>(), listed(tables, slot));
-    assert!(listing.words().len() <= 2 * tables.words().len());
+    assert!(listing.words().len() <= 4 * tables.steps as usize);
 
     let wanted = listing.words().len();
     let mut work = vec![1; work_words(image.words.len(), budget)];
@@ -101,9 +106,7 @@ fn listings_of_random_images() {
             let explained = runner.infer_listing(&image.words, &image.names, 65_536, slot);
             let (tables, listing) = explained.expect("a listing");
             let lines = listing.explain(tables, &image).to_string().lines().count();
-            // one more may be said of a type that the image gives
-            let more = lines - listing.rows().count();
-            assert!(more == 1 || more == 2 && !starts_as_its_variable(&image, slot));
+            assert_eq!(lines, listing.rows().count() + lines_before(&image, slot));
             done += 1;
         }
         for slot in [count, count + 1, NONE].map(Slot::from_number) {
@@ -180,9 +183,8 @@ fn long_listing() -> Image {
 
 #[test]
 fn a_listing_in_numbers() {
-    let (image, [x, _]) = named(["x", "y"], |_, block, [x, y], out| {
+    let (image, [x, _]) = named(["x", "y"], |_, block, [x, y]| {
         block.call(y, x, &[]).returns(y);
-        _ = out;
     });
     let (tables, listing) =
         infer_listing(&image.words, &image.names, 1_024, image.slot_of(x)).expect("a listing");
@@ -191,22 +193,26 @@ fn a_listing_in_numbers() {
     assert_eq!(listed(&tables, image.slot_of(x)), listing.rows().collect::<Vec<_>>());
 }
 
-/// A screen of one block over identifiers of these names; the last is what it returns.
+/// A screen of one block over identifiers of these names.
 fn named<const N: usize>(
     texts: [&str; N],
-    write: impl FnOnce(&mut Builder, &mut Block, [Identifier; N], Identifier),
+    write: impl FnOnce(&mut Builder, &mut Block, [Identifier; N]),
 ) -> (Image, [Identifier; N]) {
-    let mut image = Builder::new();
+    screen(|image, block| {
+        let identifiers = texts.map(|text| image.named(text));
+        write(image, block, identifiers);
+        identifiers
+    })
+}
+
+/// A screen of one block, and what its writer gives.
+fn screen<T>(write: impl FnOnce(&mut Builder, &mut Block) -> T) -> (Image, T) {
+    let (mut image, mut block) = (Builder::new(), Block::new());
     let screen = image.function();
-    let identifiers = texts.map(|text| match text {
-        "" => image.identifier(),
-        _ => image.named(text),
-    });
+    let given = write(&mut image, &mut block);
     let out = image.identifier();
-    let mut block = Block::new();
-    write(&mut image, &mut block, identifiers, out);
     image.body(screen, Body::other(out).block(block));
-    (image.finish().expect("a body"), identifiers)
+    (image.finish().expect("a body"), given)
 }
 
 fn why(image: &Image, slot: Slot) -> String {
@@ -216,19 +222,19 @@ fn why(image: &Image, slot: Slot) -> String {
 
 #[test]
 fn one_variable_alone() {
-    let (image, [known, unknown]) = named(["known", "unknown"], |_, block, [known, _], _| {
+    let (image, [known, unknown]) = named(["known", "unknown"], |_, block, [known, _]| {
         block.primitive(known);
     });
     assert_eq!(
         why(&image, image.slot_of(known)),
         "Why known is a primitive value:
-  known is known to be that directly: it leads to no other variable
+  known is that by itself: it leads to no other value
 "
     );
     assert_eq!(
         why(&image, image.slot_of(unknown)),
         "Why unknown is not known:
-  unknown is not known: nothing binds it
+  nothing in the screen says what it is
 "
     );
 }
@@ -236,7 +242,7 @@ fn one_variable_alone() {
 /// What is found first is explained at length; after that it is above.
 #[test]
 fn a_variable_is_explained_once() {
-    let (image, [x, ..]) = named(["x", "a", "b", "c"], |image, block, [x, a, b, c], _| {
+    let (image, [x, ..]) = named(["x", "a", "b", "c"], |image, block, [x, a, b, c]| {
         let array = image.object(shapes::ARRAY);
         block.phi(x, &[a, b, c]).load_local(a, b).load_local(b, c).load_global(c, Some(array));
     });
@@ -249,7 +255,7 @@ fn a_variable_is_explained_once() {
         c is known to be an object of shape Array
 "
     );
-    let (image, [x, ..]) = named(["x", "a", "b", "c"], |_, block, [x, a, b, c], _| {
+    let (image, [x, ..]) = named(["x", "a", "b", "c"], |_, block, [x, a, b, c]| {
         block.phi(x, &[b, a, c]).phi(a, &[b, c]).call(c, b, &[]);
     });
     assert_eq!(
@@ -257,7 +263,7 @@ fn a_variable_is_explained_once() {
         "Why x is one of: a function returning slot 5, one of (a function returning slot 5, slot 5), slot 5:
   x is known to be one of: b, a, c
     b is known to be a function returning slot 5
-      slot 5 is not known: nothing binds it
+      slot 5 is not known: nothing in the screen says what it is
     a is known to be one of: b (see above), c
       c is the same as slot 5 (see above)
 "
@@ -266,7 +272,7 @@ fn a_variable_is_explained_once() {
 
 #[test]
 fn every_kind_of_type() {
-    let (image, [x, ..]) = named(["x", "y"], |image, block, [x, y], _| {
+    let (image, [x, ..]) = named(["x", "y"], |image, block, [x, y]| {
         let slot = image.slot_of(y);
         let (poly, primitive, var) = (image.poly(), image.primitive(), image.var(slot));
         let (pair, unnamed) = (image.shape_named("Pair", &[]), image.shape(&[]));
@@ -284,49 +290,80 @@ fn every_kind_of_type() {
                 a constructor of shape 10 returning a primitive value, y";
     assert_eq!(
         why(&image, image.slot_of(x)),
-        format!("Why x is {text}:\n  x is known to be {text}\n    y is not known: nothing binds it\n")
+        format!(
+            "Why x is {text}:
+  x is known to be {text}
+    y is not known: nothing in the screen says what it is
+"
+        )
     );
 }
 
 #[test]
 fn slots_are_called_by_their_names() {
-    let mut image = Builder::new();
-    let screen = image.function();
-    let shared = image.slot();
-    let texts = ["total", "sum", "total", "", "all"].map(|text| image.name(text));
-    let identifiers = texts.map(|name| image.identifier_of(shared, Some(name)));
-    let (again, call, out) = (image.named("total"), image.described("total()"), image.named("out"));
-    let mut block = Block::new();
-    block.call(call, again, &[]).phi(out, &[again, identifiers[0], call]);
-    image.body(screen, Body::other(out).block(block));
-    let image = image.finish().expect("a body");
+    let (image, [out, shared]) = screen(|image, block| {
+        let shared = image.slot();
+        let texts = ["total", "sum", "total", "", "all", "whole"].map(|text| image.name(text));
+        let [total, ..] = texts.map(|name| image.identifier_of(shared, Some(name)));
+        let (again, call, out) = (image.named("total"), image.described("total()"), image.named("out"));
+        block.call(call, again, &[]).phi(out, &[again, total, call]);
+        [image.slot_of(out), shared]
+    });
     assert_eq!(
-        why(&image, image.slot_of(out)),
-        "Why out is one of: a function returning slot 4, total (slot 0), slot 4:
+        why(&image, out),
+        "Why out is one of: a function returning slot 5, total (slot 0), slot 5:
   out is known to be one of: total (slot 1), total (slot 0), total()
-    total (slot 1) is known to be a function returning slot 4
-      slot 4 is not known: nothing binds it
-    total (slot 0), also named sum, all, is not known: nothing binds it
-    total() is the same as slot 4 (see above)
+    total (slot 1) is known to be a function returning slot 5
+      slot 5 is not known: nothing in the screen says what it is
+    total (slot 0), also named sum, all and whole, is not known: nothing in the screen says what it is
+    total() is the same as slot 5 (see above)
+"
+    );
+    assert_eq!(
+        why(&image, shared),
+        "Why total is not known:
+  it is also named sum, all and whole, and nothing in the screen says what it is
 "
     );
 }
 
-/// Bytes that are no text, a line's end, and more letters than anybody reads.
+/// Bytes that are no text, ends of lines, more letters than anybody reads, and none.
 #[test]
-fn odd_names_stay_on_their_line() {
-    let mut image = Builder::new();
-    let screen = image.function();
-    let names = [b"a\nb\xFFc".to_vec(), vec![b'x'; 1_000], "\u{e9}".repeat(60).into_bytes()];
-    let identifiers = names.map(|name| image.named(name));
-    let out = image.identifier();
-    image.body(screen, Body::other(out));
-    let image = image.finish().expect("a body");
-    let texts = ["a\u{FFFD}b\u{FFFD}c".into(), "x".repeat(60) + "...", "\u{e9}".repeat(60)];
-    for (identifier, text) in identifiers.into_iter().zip(texts) {
+fn odd_texts_stay_on_their_line() {
+    let long = "x".repeat(5_000);
+    let texts = ["a\nb\u{2028}c", &long, &"\u{e9}".repeat(60), "\r", ""];
+    let printed = ["a\u{FFFD}b\u{FFFD}c", &(long[..60].to_string() + "..."), texts[2], "\u{FFFD}"];
+    let (image, (names, described, no_text)) = screen(|image, _| {
+        let names = texts.map(|text| image.named(text));
+        (names, texts.map(|text| image.described(text)), image.named(b"a\xFFb"))
+    });
+    let check = |identifier, text: &str| {
+        let expected = format!("Why {text} is not known:\n  nothing in the screen says what it is\n");
+        assert_eq!(why(&image, image.slot_of(identifier)), expected);
+    };
+    for (at, text) in printed.into_iter().enumerate() {
+        check(names[at], text);
+        check(described[at], text);
+    }
+    check(names[4], "slot 4");
+    check(described[4], "slot 9");
+    check(no_text, "a\u{FFFD}b");
+}
+
+#[test]
+fn odd_names_of_shapes_stay_on_their_line() {
+    let long = "x".repeat(5_000);
+    for (name, printed) in [("a\nb", "a\u{FFFD}b"), (&long, &(long[..60].to_string() + "...")), ("", "9")] {
+        let (image, [x]) = named(["x"], |image, block, [x]| {
+            let shape = image.shape_named(name, &[]);
+            let object = image.object(shape);
+            block.load_global(x, Some(object));
+        });
         assert_eq!(
-            why(&image, image.slot_of(identifier)),
-            format!("Why {text} is not known:\n  {text} is not known: nothing binds it\n")
+            why(&image, image.slot_of(x)),
+            format!(
+                "Why x is an object of shape {printed}:\n  x is that by itself: it leads to no other value\n"
+            )
         );
     }
 }
@@ -339,30 +376,84 @@ fn a_slot_that_is_not_visited() {
     image.body(screen, Body::component(out).param(props));
     let image = image.finish().expect("a body");
     let slot = image.slot_of(props);
-    let tables = infer_types(&image.words, &image.names, 1_024).expect("tables");
-    assert_eq!(tables.slot(slot).kind(), TypeKind::Var(slot));
+    assert_eq!(type_in_tables(&image, slot), format!("var {}", slot.number()));
     assert_eq!(
         why(&image, slot),
         "Why props is an object of shape Props:
-  props is known to be that directly: it leads to no other variable
+  props is that by itself: it leads to no other value
 "
     );
 }
 
-/// A slot that starts with a type has it, and a variable beside it.
+fn type_in_tables(image: &Image, slot: Slot) -> String {
+    infer_types(&image.words, &image.names, 1_024).expect("tables").slot(slot).to_string()
+}
+
+/// A slot that the image gives a type has it, and a variable beside it, bound to one of the same kind or another.
 #[test]
 fn a_type_that_the_image_gives() {
     let mut image = Builder::new();
     let (screen, array) = (image.function(), image.object(shapes::ARRAY));
-    let slot = image.slot_with_type(array);
-    let (name, out) = (image.name("given"), image.identifier());
-    let given = image.identifier_of(slot, Some(name));
-    image.body(screen, Body::other(out).block(Block::new().primitive(given).take()));
+    let [props_slot, given_slot] = [(); 2].map(|()| image.slot_with_type(array));
+    let [props, given] = ["props", "given"].map(|text| image.name(text));
+    let props = image.identifier_of(props_slot, Some(props));
+    let given = image.identifier_of(given_slot, Some(given));
+    let (x, out) = (image.named("x"), image.identifier());
+    let mut block = Block::new();
+    block.load_local(x, given).primitive(given);
+    image.body(screen, Body::component(out).param(props).block(block));
+    let image = image.finish().expect("a body");
+    assert_eq!(type_in_tables(&image, props_slot), "object 4");
     assert_eq!(
-        why(&image.finish().expect("a body"), slot),
+        why(&image, props_slot),
+        "Why props is an object of shape Array:
+  this follows from the type that the image gives it, beside which it has a variable:
+  the variable of props is known to be an object of shape Props
+"
+    );
+    assert_eq!(type_in_tables(&image, given_slot), "object 4");
+    assert_eq!(
+        why(&image, given_slot),
         "Why given is an object of shape Array:
-  it had this type before the run, whatever its variable is bound to
-  given is known to be a primitive value
+  this follows from the type that the image gives it, beside which it has a variable:
+  the variable of given is known to be a primitive value
+"
+    );
+    assert_eq!(
+        why(&image, image.slot_of(x)),
+        "Why x is a primitive value:
+  x is the same as the variable of given
+    the variable of given is known to be a primitive value
+"
+    );
+}
+
+/// The image gives a slot another one's variable: that is resolved where the slot is visited, and stays where it isn't.
+#[test]
+fn a_variable_that_the_image_gives() {
+    let (image, [visited, unvisited]) = screen(|image, block| {
+        let (x, y) = (image.named("x"), image.name("y"));
+        let slot = image.slot_of(x);
+        let of = image.var(slot);
+        let slots = [(); 2].map(|()| image.slot_with_type(of));
+        let [visited, _] = slots.map(|slot| image.identifier_of(slot, Some(y)));
+        block.primitive(x).load_global(visited, None);
+        slots
+    });
+    assert_eq!(type_in_tables(&image, visited), "primitive");
+    assert_eq!(
+        why(&image, visited),
+        "Why y is a primitive value:
+  this follows from the type that the image gives it, beside which it has a variable:
+  the variable of y is not known: nothing in the screen says what it is
+"
+    );
+    assert_eq!(type_in_tables(&image, unvisited), "var 0");
+    assert_eq!(
+        why(&image, unvisited),
+        "Why y is the same as x (slot 0):
+  this follows from the type that the image gives it, beside which it has a variable:
+  the variable of y is not known: nothing in the screen says what it is
 "
     );
 }
@@ -377,7 +468,7 @@ fn a_long_type_is_cut_in_the_first_line() {
     assert!(lines[0].ends_with("...:") && lines[1].starts_with("  slot 0 is known to be one of: one of ("));
 }
 
-/// Deep images, on a small stack: as many lines as rows, and no line grows with their number.
+/// Deep images, on a small stack: a line for each row, and no line grows with their number.
 #[test]
 fn deep_listings_are_explained() {
     let explain = || {
@@ -395,8 +486,7 @@ fn deep_listings_are_explained() {
             for slot in [0, 1, slots / 2, slots - 1].map(Slot::from_number) {
                 let (_, listing, text) = run(&mut runner, slot).expect("a listing");
                 let rows = listing.rows().count();
-                // one more where the image gives the type
-                assert!([1, 2].contains(&(text.lines().count() - rows)), "{}", case.name);
+                assert_eq!(text.lines().count(), rows + lines_before(&image, slot), "{}", case.name);
                 assert!(text.lines().all(|line| !line.starts_with(&" ".repeat(41))), "{}", case.name);
                 assert!(text.len() < 100 * (rows + 40) + 30 * listing.words().len(), "{}", case.name);
                 longest = longest.max(rows);

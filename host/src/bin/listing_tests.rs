@@ -10,12 +10,12 @@ use host::hostile::{processor_time, MOST_TIME};
 use host::image::{Case, Input};
 use host::lent::{Memory, Side, Words};
 use host::listed::Run;
-use host::listings::{Asked, Lent, ListingCase, LISTING_WORDS, SLOT};
+use host::listings::{Asked, ListingCase};
 use host::random::Random;
 use host::report::{fail, require, row};
 use host::stack::{on_stack, STACK, WHOLE_STACK};
 use host::{answers, corpus, deep, hostile, hostile_listings, listed, listing_edges, listings, report};
-use infer_types::{infer_types_into, LIMIT};
+use infer_types::{infer_listing_into, infer_types_into, ListingAnswer, Refusal, Slot, LIMIT};
 use std::io::Write;
 use std::ptr;
 use std::sync::Arc;
@@ -30,8 +30,11 @@ const MORE: usize = 1_000;
 const TIMES: usize = 7;
 /// Calls that take less say nothing of how much longer a listing takes.
 const LEAST_TIME: Duration = Duration::from_micros(500);
+/// A long listing takes at most so many times as long as its run.
+const MOST_TIMES: f64 = 4.0;
 /// The numbers that a call may end with.
-const NUMBERS: [u32; 17] = [0, 1, 2, 3, 4, 5, 6, 7, 8, 9, 10, 11, 12, 13, 14, SLOT, LISTING_WORDS];
+const NUMBERS: [u32; 17] =
+    [0, 1, 2, 3, 4, 5, 6, 7, 8, 9, 10, 11, 12, 13, 14, Refusal::SLOT, Refusal::LISTING_WORDS];
 
 /// What work words, table words and listing words hold before a call: the first of each, and by how much each is more
 /// than the one before it. Small work words might be taken for what a listing leaves there.
@@ -59,6 +62,18 @@ fn hold(words: &mut Words, count: usize, held: (u32, u32)) -> (&mut [u32], &mut 
 /// From this word on all hold what they held.
 fn is_kept(words: &[u32], from: usize, held: (u32, u32)) -> bool {
     words.iter().enumerate().skip(from).all(|(at, &word)| word == held_at(held, at))
+}
+
+/// Words that are lent and written to.
+struct Lent<'a> {
+    work: &'a mut [u32],
+    tables: &'a mut [u32],
+    listing: &'a mut [u32],
+}
+
+fn call(image: &[u32], names: &[u8], budget: u32, slot: u32, lent: &mut Lent) -> ListingAnswer {
+    let Lent { work, tables, listing } = lent;
+    infer_listing_into(image, names, budget, work, tables, Slot::from_number(slot), listing)
 }
 
 struct Tests {
@@ -98,7 +113,7 @@ impl Tests {
         let (before_listing, listing) = hold(&mut self.listing, asked.listing, held[2]);
         report::start(case);
         let mut lent = Lent { work, tables, listing };
-        let answer = listings::call(image, names, *budget, asked.slot, &mut lent);
+        let answer = call(image, names, *budget, asked.slot, &mut lent);
         if answer != case.left.answer() {
             fail(&format!("{answer:?}, not {:?}, if they hold {held:x?}", case.left.answer()), case);
         }
@@ -113,9 +128,14 @@ impl Tests {
         report::end();
     }
 
-    /// The call with the words that stored ones and those made by hand are held to.
+    /// The call, whatever its words hold.
     fn run_all(&mut self, case: &ListingCase) {
         HELD.into_iter().for_each(|held| self.run(case, held));
+    }
+
+    /// The same; and what is stored has to be what an own call leaves.
+    fn run_stored(&mut self, case: &ListingCase) {
+        self.run_all(case);
         let own = Run::of(&case.input).left(case.asked);
         if own != case.left {
             fail(&format!("{own:?} by an own call, not {:?}", case.left), case);
@@ -129,10 +149,11 @@ impl Tests {
         self.run(&case, HELD[self.calls % HELD.len()]);
     }
 
-    /// Calls for a slot of a run: just enough words; a listing word too few; more of both; and no step over.
+    /// Calls for a slot of a run: just enough words; one too few; more of both; and no step over.
     fn ask_all(&mut self, name: &str, input: &Arc<Input>, run: &Run, slot: u32) {
         let (tables, words) = (run.answer.table_words as usize, run.listing(slot).len());
-        for (tables, listing) in [(tables, words), (tables, words - 1), (tables + MORE, words + MORE)] {
+        let more = (tables + MORE, words + MORE);
+        for (tables, listing) in [(tables, words), (tables, words - 1), (tables - 1, words), more] {
             self.ask(name, input, run, Asked { slot, tables, listing });
         }
         let least = Arc::new(with_least_steps(input, run));
@@ -249,7 +270,7 @@ fn require_sorts(cases: &[ListingCase]) {
 
 fn run_stored(tests: &mut Tests, folder: &str) {
     let cases = listings::read("listing.calls", &answers::file(folder, "listing.calls"));
-    cases.iter().for_each(|case| tests.run_all(case));
+    cases.iter().for_each(|case| tests.run_stored(case));
     require_numbers("stored calls", &tests.part("stored"));
     require_sorts(&cases);
 }
@@ -258,6 +279,24 @@ fn run_edges(tests: &mut Tests) {
     listing_edges::edges().iter().for_each(|case| tests.run_all(case));
     require_numbers("calls made by hand", &tests.part("by hand"));
     run_nothing_lent();
+}
+
+extern "C" {
+    /// Each pointer with the count of what it points to; the binding's function has no null ones.
+    fn infer_listing(
+        image: *const u32,
+        image_words: usize,
+        names: *const u8,
+        name_bytes: usize,
+        budget: u32,
+        work: *mut u32,
+        work_words: usize,
+        tables: *mut u32,
+        table_words: usize,
+        slot: u32,
+        listing: *mut u32,
+        listing_words: usize,
+    ) -> ListingAnswer;
 }
 
 /// Null where nothing is lent.
@@ -271,9 +310,8 @@ fn run_nothing_lent() {
         let work_at = if lent == 0 { null } else { work.as_mut_ptr() };
         report::start(case);
         // SAFETY: each pointer comes with the count of what is lent there, null with 0.
-        let left = unsafe {
-            listings::infer_listing(at, words, null as _, 0, *budget, work_at, lent, null, 0, 0, null, 0)
-        };
+        let left =
+            unsafe { infer_listing(at, words, null as _, 0, *budget, work_at, lent, null, 0, 0, null, 0) };
         if left.answer.number != number || left.listing_words != 0 {
             fail(&format!("{left:?}, not {number}, where nothing is lent"), case);
         }
@@ -313,7 +351,7 @@ fn times(tests: &mut Tests, case: &ListingCase, count: usize) -> (Duration, Dura
         let start = processor_time();
         infer_types_into(image, names, *budget, work, tables);
         let between = processor_time();
-        listings::call(image, names, *budget, asked.slot, &mut Lent { work, tables, listing });
+        call(image, names, *budget, asked.slot, &mut Lent { work, tables, listing });
         taken[0].push(between - start);
         taken[1].push(processor_time() - between);
     }
@@ -338,11 +376,12 @@ fn run_one_hostile(tests: &mut Tests, case: &Case, slot: u32, timed: usize) -> (
     }
     let one = ListingCase { name: case.name.clone(), input, asked, left };
     let (time, alone) = times(tests, &one, timed);
-    if time > MOST_TIME {
-        fail(&format!("{time:?}"), &one);
+    let ratio = if alone < LEAST_TIME { 0.0 } else { time.as_secs_f64() / alone.as_secs_f64() };
+    // what was timed once may take longer by chance
+    if time > MOST_TIME || timed > 1 && ratio > MOST_TIMES {
+        fail(&format!("{time:?}, {ratio:.2} times that of infer_types"), &one);
     }
     report::end();
-    let ratio = if alone < LEAST_TIME { 0.0 } else { time.as_secs_f64() / alone.as_secs_f64() };
     (time, ratio)
 }
 
@@ -406,7 +445,7 @@ fn run_deepest(folder: &str) {
 
 fn run_only(path: &str) {
     let mut tests = Tests::new();
-    listings::read(path, &corpus::read_file(path)).iter().for_each(|case| tests.run_all(case));
+    listings::read(path, &corpus::read_file(path)).iter().for_each(|case| tests.run_stored(case));
     tests.part("calls");
 }
 

@@ -24,7 +24,7 @@ returns c listed h = seek-past _ h (rw (c .before .before .mark-of .ensures) at 
 
 returns-2 : tie.Need-returns-2
 returns-2 c listed h =
-    let o = c .before in
+    let o = c .before .before in
     let m = o .before .before .before in
     let k = rw (m .mark-of .ensures) at (o .before .if1 .left) in
     rw (o .order-of .ensures, m .mark-of .ensures) (seek-found _ h k)

@@ -18,7 +18,7 @@ slice-write-w-2 c = order-written (c .before .before .before .pre) _ (c .order-o
 
 returns : tie.Need-returns
 returns c =
-    let o = c .before .before in
+    let o = c .before .before .before in
     let m = o .before in
     rw (o .order-of .ensures, m .mark-of .ensures)
     (lists-unbound (m .before .before .pre) (rw (o .order-of .ensures, m .mark-of .ensures) at (c .if1 .taken)))
@@ -26,7 +26,7 @@ returns c =
 push-variables-requires : tie.Need-push-variables-requires
 push-variables-requires c κs =
     let i = c .before in
-    let o = i .before .before in
+    let o = i .before .before .before in
     let m = o .before in
     rw (o .order-of .ensures, m .mark-of .ensures)
     (push-asked (m .before .before .pre) (rw (o .order-of .ensures, m .mark-of .ensures) at (i .if1 .left)))
@@ -35,7 +35,7 @@ returns-2 : tie.Need-returns-2
 returns-2 c =
     let p = c .before .before in
     let i = p .before .before in
-    let o = i .before .before in
+    let o = i .before .before .before in
     let m = o .before in
     lists-bound (m .before .before .pre) (rw (o .order-of .ensures, m .mark-of .ensures) at (i .if1 .left))
     (rw (o .order-of .ensures, m .mark-of .ensures) at (p .push-variables .ensures))
@@ -54,7 +54,8 @@ list-variable-spec =
     (λ c. search needs)
     slice-write-w-2
     (λ c. search needs)
-    (λ c. let l = low-inside (c .before .before .before .before .pre) in search needs)
+    (λ c. search needs)
+    (λ c. let l = low-inside (c .before .before .before .before .before .pre) in search needs)
     (λ c. search needs)
     returns
     (λ c. search needs)

@@ -10,6 +10,6 @@ mark-of-spec =
     (tie.spec
     (λ c. search needs)
     (λ c. search needs)
-    (λ c. sym (mark-low _ _ (c .before .if1 .taken)))
+    (λ c. sym (mark-low _ _ (c .before .before .if1 .taken)))
     (λ c. search needs)
-    (λ c. sym (mark-high _ _ (c .before .before .if1 .left))))
+    (λ c. sym (mark-high _ _ (c .before .before .before .if1 .left))))

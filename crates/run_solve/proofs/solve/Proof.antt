@@ -1,7 +1,7 @@
 use native.Mathlib.Omega.{arith}
 use borrow.Author.Needs.{needs}
 use Rattle.run_solve.proofs.Lending.{sizes}
-use Rattle.run_solve.proofs.WholeRun.{begun, bindings-inside, lay-asked, ready, generate-stops, applying, apply-stops, finish-asked, run-finishes}
+use Rattle.run_solve.proofs.WholeRun.{begun, bindings-inside, lay-asked, ready, generate-stops, applying, apply-stops, answer-asked, run-finishes}
 use Rattle.run_solve.proofs.solve.Statement.{statement}
 use Rattle.run_solve.proofs.solve.Tie as tie
 
@@ -79,7 +79,7 @@ table-answer-requires c κs =
     let k = l .before .before .before .before in
     let b = begun (k .before .before .before .before .before .before .pre) (k .before .count .ensures) (k .clear .ensures) in
     let f = rw (g .before .first-walk .ensures) at (g .generate .ensures) in
-    finish-asked b (l .lay-out .ensures) f (a .before .before .if1 .left) (a .apply .ensures) (c .before .if2 .left)
+    answer-asked b (l .lay-out .ensures) f (a .before .before .if1 .left) (a .apply .ensures) (c .before .if2 .left)
 
 returns-3 : tie.Need-returns-3
 returns-3 c =
