@@ -1,5 +1,5 @@
 -- What `solve` leaves is what a listing asks, and stays while it is made. Assumes nothing.
-use Prim.Native.Nat.{ℕ, _+_, _*_, _-_, _^_, _≤_, _<_}
+use Prim.Native.Nat.{ℕ, _+_, _*_, _^_, _≤_, _<_}
 use native.Mathlib.Omega.{arith}
 use mathlib.Core.Path.{_≡_, sym, ap, subst, _∙_}
 use mathlib.Core.Option.{Option}
@@ -29,7 +29,6 @@ use Rattle.run_solve.proofs.SolvedLaws.{solved, slot-bindings, Stand, many}
 use Rattle.listing_definition.specs.Listing.{listed-from, listing-of}
 use Rattle.listing_definition.proofs.Fits.{listing-few}
 use Rattle.listing_walk.specs.Walk.{steps-of, order-at, Places, Keeps, Lists-asked, Lists-all}
-use Rattle.run_tables.specs.Writing.{table}
 use Rattle.listing.specs.Rows.{In-order}
 
 -- words that stand for a log stand for its rows, if these say the same

@@ -1,5 +1,5 @@
--- What `run` and `infer_listing` answer, in the definition's terms. Assumes nothing.
-use Prim.Native.Nat.{ℕ, zero, suc, _≤_, _<_}
+-- What `run` answers, in the definition's terms. Assumes nothing.
+use Prim.Native.Nat.{ℕ, _≤_, _<_}
 use native.Mathlib.Omega.{arith}
 use mathlib.Core.Path.{_≡_, refl, sym, ap, subst, _∙_}
 use mathlib.Core.List.{List, []}
@@ -16,8 +16,8 @@ use Rattle.run_tables.specs.Writing.{counting, writing, table, Write-asked, Wri
 use Rattle.run_solve.specs.Solve.{Run-asked, Solves}
 use Rattle.run_solve.specs.declared.Solved.{Solved}
 use Rattle.run_solve.proofs.SolvedLaws.{slot-bindings, stopped-tables, solved-output, solved-bindings, write-asked, tables-written}
-use Rattle.listing_definition.specs.Listing.{listed-from, listing-of, listing-with, listing}
-use Rattle.listing_definition.proofs.Sound.{after-done, after-refused}
+use Rattle.listing_definition.specs.Listing.{listed-from, listing-of, listing-with}
+use Rattle.listing_definition.proofs.Sound.{after-done, after-refused, by-number}
 use Rattle.listing_walk.specs.Walk.{order-at, Lists-all}
 use Rattle.listing.specs.Entry.{Gives}
 use Rattle.listing.specs.Rows.{Asks-listing, Emits-listing, Writes-listing, Runs-listing}
@@ -50,11 +50,7 @@ gives-stopped o {t} {l} a e n = record { answers = a; listing-words = e; tables 
 
 -- a run that is not done
 after-stopped : (o : Output) (next : With-more) → (o .answer .number ≡ 0 → ⊥) → after-run o next ≡ with-more o []
-after-stopped o next h = go (o .answer .number) refl
-  where
-    go : (n : ℕ) → o .answer .number ≡ n → after-run o next ≡ with-more o []
-    go zero e = absurd (h e)
-    go (suc n) e = after-refused o next n e
+after-stopped o next h = by-number (o .answer .number) (λ e. absurd (h e)) (λ n e. after-refused o next n e)
 
 module _ {img bytes w w₁ : List ℕ} {budget : ℕ} (slot : ℕ) (t l : List ℕ) {s : Solved} (A : Run-asked img bytes budget w) (S : Solves img bytes budget w w₁ (length t) s) where
   abbrev o : Output

@@ -96,7 +96,7 @@ pub record Seek-asked (w : List ℕ) (lay : Layout) (n x : ℕ) : Type 0 where
 abbrev pub Seeks : (w : List ℕ) (lay : Layout) (n x : ℕ) (r : Bool) → Type 0
 Seeks w lay n x r = (listed : List ℕ) → Ordered w lay n listed → r ≡ member x listed
 
--- the words stand for bindings, which leave room to list what they mention
+-- the words stand for bindings, whose nodes end below the places that a listing takes
 pub record Stands-for (w : List ℕ) (lay : Layout) (bs : List Binding) : Type 0 where
   pub top : ℕ
   pub under : top ≤ lay .stack
