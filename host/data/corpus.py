@@ -21,7 +21,7 @@ from collections import Counter
 NONE = 0xFFFFFFFF
 LIMIT = 65_536
 MOST_TABLES = 16_777_216
-LANDED = 3                      # of document 02 the answers have 2.1 to 2.3, and no later request
+LANDED = 4                      # of document 02 the answers have 2.1 to 2.4, and no later request
 LONGEST_LOOKUPS = 2_000         # words, and name bytes; longer inputs are those that `lengths` makes
 LIST_ROW, ANSWER_ROW, MOST_ROWS = 5, 9, 256
 LENT = "work_len", "table_len", "answer_len"

@@ -10,6 +10,7 @@
 use crate::corpus::{self, Reader};
 use crate::deep;
 use crate::image::Case;
+use crate::patterns;
 use infer_types::{Answer, Lookups, Refusal, Tables, ANSWER_ROW};
 
 /// The corpus files, which stand beside their answers.
@@ -164,4 +165,9 @@ pub fn of_corpus(folder: &str, name: &str) -> Vec<(Case, Expected)> {
 /// The deep images, with their answers.
 pub fn of_deep(folder: &str) -> Vec<(Case, Expected)> {
     answered(deep::deep(), folder, "deep")
+}
+
+/// The array patterns, with their answers.
+pub fn of_patterns(folder: &str) -> Vec<(Case, Expected)> {
+    answered(patterns::patterns(), folder, "patterns")
 }

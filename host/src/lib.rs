@@ -25,6 +25,7 @@ pub mod listings;
 pub mod lists;
 #[cfg(feature = "library")]
 pub mod own_calls;
+pub mod patterns;
 pub mod plain;
 pub mod random;
 pub mod report;

@@ -1,87 +1,134 @@
--- The decimal digits of a number are its digits by powers of ten; and ten bytes that are filled with them. Assumes nothing.
-use Prim.Native.Nat.{ℕ, zero, suc, _+_, _-_, _*_, _/_, _%_, _^_, _≤_, _<_}
+-- The digits of a number by its tenth, and how they are counted and written from the last one on. Assumes nothing.
+use Prim.Native.Nat.{ℕ, zero, suc, _+_, _-_, _/_, _%_, _^_, _≤_, _<_}
 use native.Mathlib.Omega.{arith}
 use native.Mathlib.Numerals.{add-one}
 use native.Mathlib.Decide.{decLt}
-use native.Mathlib.Nat.{pow-zero, pow-suc, pow-succ', one-le-pow, div-one, div-lt-iff-lt-mul, le-div-iff-mul-le, div-div-eq-div-mul, sub-self}
-use mathlib.Core.Path.{_≡_, refl, sym, _∙_}
+use native.Mathlib.Nat.{pow-suc, div-lt-iff-lt-mul}
+use mathlib.Core.Path.{_≡_, refl, sym, ap, _∙_}
 use mathlib.Core.List.{List, [], _∷_, _++_}
-use lib.ListN.{length, getD, take, set, replicate, length-append, List·getD-append}
-use lib.Seq.{take-suc, take-all, length-take-le, set-at, getD-at, append-snoc}
+use lib.ListN.{length, take, drop, set, replicate, length-append, length-set, length-replicate, replicate-append-replicate}
+use lib.Seq.{length-take-le, set-split, drop-at, append-snoc}
 use borrow.Author.Tests.{lt-ltb, le-ltb}
 use Rattle.names.specs.Digits.{decimal, digits, Written}
-use Rattle.names.specs.Powers.{Counted, digit-at}
 
--- x has k digits after its first
-record Long (k x : ℕ) : Type 0 where
-  fits : x < 10 ^ suc k
-  least : 0 < k → 10 ^ k ≤ x
+-- the cases of the definition, and the tenth that the second goes on with
+module _ (m x : ℕ) where
+  pub decimal-last : x < 10 → decimal (suc m) x ≡ (48 + x) ∷ []
+  unfolding decimal
+  decimal-last h = rw (lt-ltb x 10 h, decimal)
 
--- a number of more than one digit is at least 10, and its tenth has one digit fewer
-tens : (k x : ℕ) → Long (suc k) x → 10 ≤ x
-tens k x l = omega (arith, l .least (omega arith), pow-suc 10 k, one-le-pow k 10 (omega arith))
+  pub decimal-more : 10 ≤ x → decimal (suc m) x ≡ decimal m (x / 10) ++ ((48 + x % 10) ∷ [])
+  unfolding decimal
+  decimal-more h = rw (le-ltb x 10 h, decimal)
 
-tenth : (k x : ℕ) → Long (suc k) x → Long k (x / 10)
-tenth k x l =
-    record {
-      fits = div-lt-iff-lt-mul {k = 10} {x = x} {y = 10 ^ suc k} (omega arith) .1 (rw (← pow-suc) (l .fits));
-      least = λ h. le-div-iff-mul-le {k = 10} {x = 10 ^ k} {y = x} (omega arith) .1 (rw (← pow-suc) (l .least (omega arith)));
-    }
+  pub tenth : x < 10 ^ suc m → x / 10 < 10 ^ m
+  tenth h = div-lt-iff-lt-mul {k = 10} {x = x} {y = 10 ^ m} (omega arith) .1 (rw (← pow-suc) h)
 
-decimal-length : (m k x : ℕ) → k < m → Long k x → length (decimal m x) ≡ suc k
-unfolding decimal
-decimal-length zero k x h l = absurd (omega arith)
-decimal-length (suc m) zero x h l = rw (lt-ltb x 10 (omega (arith, l .fits)), decimal)
-decimal-length (suc m) (suc k) x h l =
-    rw (le-ltb x 10 (tens k x l), decimal, length-append, decimal-length m k (x / 10) (omega arith) (tenth k x l)) (omega arith)
-
-decimal-at : (m k x i : ℕ) → k < m → Long k x → i < suc k → getD (decimal m x) i 0 ≡ 48 + x / 10 ^ (k - i) % 10
-unfolding decimal
-decimal-at zero k x i h l b = absurd (omega arith)
-decimal-at (suc m) zero x i h l b =
-    let e : i ≡ 0 = omega arith in
-    let f : x < 10 = omega (arith, l .fits) in
-    rw (lt-ltb x 10 f, decimal, e, div-one) (omega arith)
-decimal-at (suc m) (suc k) x i h l b = rw (le-ltb x 10 (tens k x l), decimal) (go (decLt i (suc k)) (decimal-at m k (x / 10) i (omega arith) (tenth k x l)))
+-- where so many digits are enough, one more gives the same
+decimal-enough : (m x : ℕ) → x < 10 ^ suc m → decimal (suc m) x ≡ decimal (suc (suc m)) x
+decimal-enough zero x h = decimal-last 0 x h ∙ sym (decimal-last 1 x h)
+decimal-enough (suc m) x h = go (decLt x 10) (decimal-enough m (x / 10) (tenth (suc m) x h))
   where
-    go : Dec (i < suc k) → (i < suc k → getD (decimal m (x / 10)) i 0 ≡ 48 + x / 10 / 10 ^ (k - i) % 10) → getD (decimal m (x / 10) ++ ((48 + x % 10) ∷ [])) i 0 ≡ 48 + x / 10 ^ (suc k - i) % 10
-    go (yes p) r =
-        let e : suc k - i ≡ suc (k - i) = omega arith in
-        rw (e, pow-succ', ← div-div-eq-div-mul, List·getD-append (decimal m (x / 10)) ((48 + x % 10) ∷ []) 0 i (omega (arith, decimal-length m k (x / 10) (omega arith) (tenth k x l)))) (r p)
-    go (no p) r =
-        let e : i ≡ suc k = omega arith in
-        rw (e, sub-self, pow-zero, div-one) (getD-at (decimal m (x / 10)) (48 + x % 10) [] 0 (suc k) (decimal-length m k (x / 10) (omega arith) (tenth k x l)))
+    go : Dec (x < 10) → decimal (suc m) (x / 10) ≡ decimal (suc (suc m)) (x / 10) → decimal (suc (suc m)) x ≡ decimal (suc (suc (suc m))) x
+    go (yes p) r = decimal-last (suc m) x p ∙ sym (decimal-last (suc (suc m)) x p)
+    go (no p) r = decimal-more (suc m) x (omega arith) ∙ ap (λ (ds : List ℕ). ds ++ ((48 + x % 10) ∷ [])) r ∙ sym (decimal-more (suc (suc m)) x (omega arith))
 
-module _ {x n : ℕ} (c : Counted x n) where
-  long : Long (n - 1) x
-  long =
-      let e : suc (n - 1) ≡ n = omega (arith, c .some) in
-      record { fits = rw e (c .fits); least = λ h. c .least (omega arith) }
+decimal-few : (m x : ℕ) → length (decimal m x) ≤ m
+unfolding decimal
+decimal-few zero x = omega arith
+decimal-few (suc m) x = go (decLt x 10) (decimal-few m (x / 10))
+  where
+    go : Dec (x < 10) → length (decimal m (x / 10)) ≤ m → length (decimal (suc m) x) ≤ suc m
+    go (yes p) r = rw (decimal-last m x p) (omega arith)
+    go (no p) r = rw (decimal-more m x (omega arith), length-append) (omega arith)
 
-  -- so many digits
-  pub digits-length : length (digits x) ≡ n
+module _ (x : ℕ) where
+  -- a number below ten is its own digit
+  pub digits-last : x < 10 → digits x ≡ (48 + x) ∷ []
   unfolding digits
-  digits-length = decimal-length 10 (n - 1) x (omega (arith, c .some, c .few)) long ∙ omega (arith, c .some)
+  digits-last = decimal-last 9 x
 
-  -- each of them
-  pub digits-at : (i : ℕ) → i < n → getD (digits x) i 0 ≡ digit-at x n i
-  unfolding digits digit-at
-  digits-at i h = decimal-at 10 (n - 1) x i (omega (arith, c .some, c .few)) long (omega arith)
+  -- another has the digits of its tenth, and the remainder
+  pub digits-more : x < 2 ^ 32 → 10 ≤ x → digits x ≡ digits (x / 10) ++ ((48 + x % 10) ∷ [])
+  unfolding digits
+  digits-more l h = decimal-more 9 x h ∙ ap (λ (ds : List ℕ). ds ++ ((48 + x % 10) ∷ [])) (decimal-enough 8 (x / 10) (omega arith))
 
--- ten bytes, of which the first i are digits
-abbrev pub filled : List ℕ → ℕ → List ℕ
-filled ds i = take i ds ++ replicate (10 - i) 0
+  -- so it has one digit, or one more than its tenth
+  pub digits-one : x < 10 → length (digits x) ≡ 1
+  digits-one h = ap length (digits-last h)
 
--- one digit more
-pub filled-turn : (ds : List ℕ) (i v : ℕ) → i < length ds → i < 10 → v ≡ getD ds i 0 → set (filled ds i) i v ≡ filled ds (i + 1)
-filled-turn ds i v h l e =
-    let q : 10 - i ≡ suc (10 - suc i) = omega arith in
-    rw (q, set-at (take i ds) 0 (replicate (10 - suc i) 0) v i (length-take-le i ds (omega arith)), add-one, take-suc ds i 0 h, ← e)
-    (sym (append-snoc (take i ds) v (replicate (10 - suc i) 0)))
+  pub digits-longer : x < 2 ^ 32 → 10 ≤ x → length (digits x) ≡ length (digits (x / 10)) + 1
+  digits-longer l h = ap length (digits-more l h) ∙ length-append (digits (x / 10)) ((48 + x % 10) ∷ [])
 
--- all digits
-pub filled-end : {x n : ℕ} (c : Counted x n) → Written x (filled (digits x) n) n
-filled-end {x} {n} c =
-    let e = digits-length c in
-    rw (take-all n (digits x) (omega arith))
-    (record { within = omega (arith, length-append (digits x) (replicate (10 - n) 0)); count = sym e; content = refl })
+  pub digits-some : x < 2 ^ 32 → 1 ≤ length (digits x)
+  digits-some l = go (decLt x 10)
+    where
+      go : Dec (x < 10) → 1 ≤ length (digits x)
+      go (yes p) = omega (arith, digits-one p)
+      go (no p) = omega (arith, digits-longer l (omega arith))
+
+pub digits-few : (x : ℕ) → length (digits x) ≤ 10
+unfolding digits
+digits-few = decimal-few 10
+
+-- the bytes after i are written: with the digits of the rest before them they are the record of x, which has n digits
+pub record Filling (x n : ℕ) (d : List ℕ) (rest i : ℕ) : Type 0 where
+  pub within : rest ≤ x
+  pub long : length d ≡ 10
+  pub left : i + 1 ≡ length (digits rest)
+  pub content : digits rest ++ drop (i + 1) d ≡ digits x ++ replicate (10 - n) 0
+
+pub filling-start : {x n : ℕ} → x < 2 ^ 32 → n ≡ length (digits x) → Filling x n (replicate 10 0) x (n - 1)
+filling-start {x} {n} l e = record { within = omega arith; long = refl; left = s ∙ e; content = rw (s, zeros) refl }
+  where
+    s : n - 1 + 1 ≡ n
+    s = omega (arith, digits-some x l)
+
+    t : 10 ≡ n + (10 - n)
+    t = omega (arith, digits-few x)
+
+    zeros : drop n (replicate {A = ℕ} 10 0) ≡ replicate (10 - n) 0
+    zeros =
+        ap (λ (k : ℕ). drop n (replicate {A = ℕ} k 0)) t
+        ∙ ap (λ (l : List ℕ). drop n l) (sym (replicate-append-replicate {A = ℕ} n (10 - n) 0))
+        ∙ drop-at (replicate {A = ℕ} n 0) (replicate (10 - n) 0) n (length-replicate n 0)
+
+module _ {x n rest i : ℕ} {d : List ℕ} (f : Filling x n d rest i) where
+  pub filling-inside : i < 10
+  filling-inside = omega (arith, f .left, digits-few rest)
+
+  -- the rest's last digit is written
+  put-digit : (ds : List ℕ) (b : ℕ) → digits rest ≡ ds ++ (b ∷ []) → ds ++ drop i (set d i b) ≡ digits x ++ replicate (10 - n) 0
+  put-digit ds b e =
+      let inside : i < length d = omega (arith, f .long, filling-inside) in
+      ap (λ (l : List ℕ). ds ++ drop i l) (set-split d i b inside)
+      ∙ ap (λ (l : List ℕ). ds ++ l) (drop-at (take i d) (b ∷ drop (suc i) d) i (length-take-le i d (omega arith)))
+      ∙ sym (append-snoc ds b (drop (suc i) d))
+      ∙ rw (← e, ← add-one i) (f .content)
+
+  module _ (l : x < 2 ^ 32) (h : 10 ≤ rest) where
+    -- as many digits stand before it
+    filling-before : i ≡ length (digits (rest / 10))
+    filling-before = omega (arith, f .left, digits-longer rest (omega (arith, f .within)) h)
+
+    pub filling-some : 1 ≤ i
+    filling-some = omega (arith, filling-before, digits-some (rest / 10) (omega (arith, f .within)))
+
+    pub filling-turn : Filling x n (set d i (48 + rest % 10)) (rest / 10) (i - 1)
+    filling-turn =
+        let s : i - 1 + 1 ≡ i = omega (arith, filling-some) in
+        record {
+          within = omega (arith, f .within);
+          long = length-set d i (48 + rest % 10) ∙ f .long;
+          left = s ∙ filling-before;
+          content = rw s (put-digit (digits (rest / 10)) (48 + rest % 10) (digits-more rest (omega (arith, f .within)) h));
+        }
+
+  pub filling-end : n ≡ length (digits x) → rest < 10 → Written x (set d i (48 + rest)) n
+  filling-end e h =
+      let z : i ≡ 0 = omega (arith, f .left, digits-one rest h) in
+      record {
+        within = omega (arith, digits-few x, length-set d i (48 + rest), f .long);
+        count = e;
+        content = ap (λ (k : ℕ). drop k (set d i (48 + rest))) (sym z) ∙ put-digit [] (48 + rest) (digits-last rest h);
+      }

@@ -1,4 +1,3 @@
 pub mod Same
-pub mod Table
 pub mod Decimals
 pub mod Numbers

@@ -2,12 +2,11 @@
 use Prim.Native.Nat.{ℕ, zero, suc, _+_, _-_, _*_, _/_, _%_, _^_, _≤_, _<_}
 use native.Mathlib.Omega.{arith}
 use native.Mathlib.Decide.{decLt}
-use native.Mathlib.Nat.{pow-suc, div-lt-iff-lt-mul}
 use mathlib.Core.Path.{_≡_, refl}
 use mathlib.Core.List.{List, [], _∷_, _++_}
 use lib.ListN.{getD}
-use borrow.Author.Tests.{lt-ltb, le-ltb}
 use Rattle.names.specs.Digits.{decimal, digits}
+use Rattle.names.proofs.Decimals.{decimal-last, decimal-more, tenth}
 
 -- the number that bytes say as decimal digits after those of a number n
 unfoldable pub said : ℕ → List ℕ → ℕ
@@ -22,11 +21,11 @@ said-snoc n (c ∷ cs) b = said-snoc (n * 10 + (c - 48)) cs b
 decimal-said : (m x : ℕ) → x < 10 ^ m → said 0 (decimal m x) ≡ x
 unfolding decimal said
 decimal-said zero x h = omega (arith, h)
-decimal-said (suc m) x h = go (decLt x 10) (decimal-said m (x / 10) (div-lt-iff-lt-mul {k = 10} {x = x} {y = 10 ^ m} (omega arith) .1 (rw (← pow-suc) h)))
+decimal-said (suc m) x h = go (decLt x 10) (decimal-said m (x / 10) (tenth m x h))
   where
     go : Dec (x < 10) → said 0 (decimal m (x / 10)) ≡ x / 10 → said 0 (decimal (suc m) x) ≡ x
-    go (yes p) r = rw (lt-ltb x 10 p, decimal) (omega arith)
-    go (no p) r = rw (le-ltb x 10 (omega arith), decimal, said-snoc, r) (omega arith)
+    go (yes p) r = rw (decimal-last m x p) (omega arith)
+    go (no p) r = rw (decimal-more m x (omega arith), said-snoc, r) (omega arith)
 
 -- "exactly the decimal digits of the number"
 pub digits-said : (x : ℕ) → x < 2 ^ 32 → said 0 (digits x) ≡ x
@@ -41,11 +40,11 @@ first-append (x ∷ xs) ys h = h
 decimal-first : (m x : ℕ) → 0 < x → x < 10 ^ m → 48 < getD (decimal m x) 0 0
 unfolding decimal
 decimal-first zero x l h = absurd (omega arith)
-decimal-first (suc m) x l h = go (decLt x 10) (λ p. decimal-first m (x / 10) (omega arith) (div-lt-iff-lt-mul {k = 10} {x = x} {y = 10 ^ m} (omega arith) .1 (rw (← pow-suc) h)))
+decimal-first (suc m) x l h = go (decLt x 10) (λ p. decimal-first m (x / 10) (omega arith) (tenth m x h))
   where
     go : Dec (x < 10) → (10 ≤ x → 48 < getD (decimal m (x / 10)) 0 0) → 48 < getD (decimal (suc m) x) 0 0
-    go (yes p) r = rw (lt-ltb x 10 p, decimal) (omega arith)
-    go (no p) r = rw (le-ltb x 10 (omega arith), decimal) (first-append (decimal m (x / 10)) ((48 + x % 10) ∷ []) (r (omega arith)))
+    go (yes p) r = rw (decimal-last m x p) (omega arith)
+    go (no p) r = rw (decimal-more m x (omega arith)) (first-append (decimal m (x / 10)) ((48 + x % 10) ∷ []) (r (omega arith)))
 
 -- "no leading zero": only 0 begins with one
 pub digits-first : (x : ℕ) → 0 < x → x < 2 ^ 32 → 48 < getD (digits x) 0 0

@@ -61,8 +61,15 @@ impl Counts {
         }
         println!("total   {:>25}", self.answers.values().sum::<u64>());
         println!("\nsort and answers");
-        for sort in [Sort::Row, Sort::Screen, Sort::DamagedScreen, Sort::Hard, Sort::DamagedHard, Sort::Small]
-        {
+        for sort in [
+            Sort::Row,
+            Sort::Pattern,
+            Sort::Screen,
+            Sort::DamagedScreen,
+            Sort::Hard,
+            Sort::DamagedHard,
+            Sort::Small,
+        ] {
             let row = self.sorts.iter().filter(|one| one.0 .0 == sort);
             let row: Vec<String> = row.map(|((_, number), count)| format!("{number}: {count}")).collect();
             println!("{:<14} {}", format!("{sort:?}"), row.join(", "));

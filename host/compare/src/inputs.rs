@@ -13,6 +13,8 @@ const MOST_WORK: usize = 8 * (65_537 + 65_537);
 pub enum Sort {
     /// A row of document 01.
     Row,
+    /// An array pattern of `host::patterns`.
+    Pattern,
     /// A screen that passes the check.
     Screen,
     /// A screen with a few words changed.
@@ -22,6 +24,13 @@ pub enum Sort {
     DamagedHard,
     /// An image of a few words.
     Small,
+}
+
+impl Sort {
+    /// Whether it has no number.
+    pub fn is_fixed(self) -> bool {
+        matches!(self, Sort::Row | Sort::Pattern)
+    }
 }
 
 /// The words that an image has, or so: up to 400, 1,500, 6,000, 20,000 or all.

@@ -1,11 +1,12 @@
 //! Tests of the proved run: inputs through the archive, answers, tables and lent words against those expected.
 //!
 //!     infer_tests FOLDER          every test; FOLDER has the corpus and the stored answers
-//!     infer_tests --write FILE    writes the deep inputs, for another judge
+//!     infer_tests --write FOLDER  writes the deep inputs and the array patterns, for another judge
 
 use host::answers::{is_done, is_unrun, sum, without_tables, Expected, CORPUS, LOOKUPS};
 use host::image::{option_bits, Case, Input, OPTIONS};
 use host::lent::{Memory, Side, Words};
+use host::patterns::patterns;
 use host::report::{fail, require, row};
 use host::rules::Rules;
 use host::stack::{on_stack, DEFAULT_STACK, STACK, WHOLE_STACK};
@@ -153,6 +154,8 @@ fn run_all(folder: &str) {
             require_lookups(&cases);
         }
     }
+    let counts = run_corpus(&mut tests, "patterns", &answers::of_patterns(folder));
+    require("finished array pattern", counts[Answer::DONE as usize]);
     run_deep(&mut tests, folder, |case| !deep::is_deepest(case));
     println!("{:<10}{}", "all", row(&tests.total));
     require_numbers(&tests.total);
@@ -165,8 +168,8 @@ fn run_deepest(folder: &str) {
 /// Every stored input through the plain function and through one Runner: the stored answer and tables, whatever ran
 /// before. Both lend work words enough, so that inputs that are stored with too few are left out.
 fn run_safe(folder: &str) {
-    let inputs =
-        CORPUS.iter().flat_map(|name| answers::of_corpus(folder, name)).chain(answers::of_deep(folder));
+    let stored = CORPUS.iter().flat_map(|name| answers::of_corpus(folder, name));
+    let inputs = stored.chain(answers::of_deep(folder)).chain(answers::of_patterns(folder));
     let mut runner = Runner::new();
     let mut count = 0;
     for (case, expected) in inputs.filter(|one| one.1.answer.number != Refusal::WORK_WORDS) {
@@ -191,7 +194,10 @@ fn main() {
     let arguments: Vec<String> = std::env::args().skip(1).collect();
     match arguments.iter().map(String::as_str).collect::<Vec<_>>()[..] {
         // the answers in it mean nothing
-        ["--write", path] => corpus::write_file(path, &deep::deep(), corpus::write),
+        ["--write", folder] => {
+            corpus::write_file(&format!("{folder}/deep.corpus"), &deep::deep(), corpus::write);
+            corpus::write_file(&format!("{folder}/patterns.corpus"), &patterns(), corpus::write);
+        }
         [folder] => {
             report::watch();
             on_stack(STACK, folder, run_all);
@@ -199,6 +205,6 @@ fn main() {
             on_stack(DEFAULT_STACK, folder, run_safe);
             println!("infer_tests: all passed");
         }
-        _ => panic!("infer_tests FOLDER or infer_tests --write FILE"),
+        _ => panic!("infer_tests FOLDER or infer_tests --write FOLDER"),
     }
 }

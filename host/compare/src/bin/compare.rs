@@ -1,6 +1,7 @@
 //! Images through the library and through the Rust; what document 01 says is equal has to be.
 //!
-//!     compare FIRST COUNT SECONDS         the rows and the inputs of these numbers, until the seconds are over
+//!     compare FIRST COUNT SECONDS         the rows, array patterns and the inputs of these numbers, until the
+//!                                         seconds are over
 //!     compare --list FILE                 writes the fixed list: inputs with the Rust's answers
 //!     compare --write FILE FIRST COUNT    writes the inputs of these numbers, for another judge
 //!     compare --stored FILE..             holds the answers of files to the Rust
@@ -46,24 +47,25 @@ fn judge_stored(paths: &[&str]) -> Counts {
 #[cfg(feature = "library")]
 fn judge_library(first: u64, count: u64, seconds: u64) -> Counts {
     use compare::{around::around, inputs::Sort, linked::Linked};
+    use host::patterns::patterns;
     let start = std::time::Instant::now();
     let mut counts = Counts::default();
     let mut judge = Judge::new(Linked::default());
     let rows = rows().into_iter().map(|(letter, input)| (format!("row {letter}"), Sort::Row, input));
+    let patterns = patterns().into_iter().map(|case| (case.name, Sort::Pattern, case.input));
     let numbered = (first..first + count).map(|number| {
         let (sort, input) = inputs::input(number);
         (format!("input {number}"), sort, input)
     });
-    for (number, (name, sort, input)) in rows.chain(numbered).enumerate() {
+    for (number, (name, sort, input)) in rows.chain(patterns).chain(numbered).enumerate() {
         if start.elapsed().as_secs() >= seconds {
             break;
         }
         let (answer, held) = judge.ask(&input);
-        let held =
-            held.and_then(|held| match answer.number == 0 && (number % 16 == 0 || sort == Sort::Row) {
-                true => around(&mut judge.library, &input, &answer).map(|()| held),
-                false => Ok(held),
-            });
+        let held = held.and_then(|held| match answer.number == 0 && (number % 16 == 0 || sort.is_fixed()) {
+            true => around(&mut judge.library, &input, &answer).map(|()| held),
+            false => Ok(held),
+        });
         match held {
             Ok(held) => counts.add(Some(sort), &input, answer.number, held),
             Err(message) => {

@@ -1,33 +1,18 @@
--- The loop's invariant: x has at least n digits.
-use Prim.Native.Nat.{_+_, _-_, _^_, _<_, _≤_}
+-- The loop's invariant: the digits counted and those of the rest are one more than those of x.
+use Prim.Native.Nat.{_+_, _≤_}
 use mathlib.Core.Path.{_≡_}
-use borrow.Author.Needs.{needs}
 use native.Mathlib.Omega.{arith}
+use lib.ListN.{length}
+use Rattle.names.specs.Digits.{digits}
+use Rattle.names.proofs.Decimals.{digits-one, digits-longer, digits-few}
 use Rattle.names.proofs.digits.count_digits.Statement.{statement}
 use Rattle.names.proofs.digits.count_digits.Tie as tie
 
 abbrev Inv-loop : tie.InvT-loop
-Inv-loop x n₀ n = (1 ≤ n) × (n ≤ 10) × (1 < n → 10 ^ (n - 1) ≤ x)
+Inv-loop x n₀ rest₀ n rest = (rest ≤ x) × (n + length (digits rest) ≡ 1 + length (digits x))
 
 abbrev μ-loop : tie.MeasureT-loop
-μ-loop x n₀ n = 10 - n
-
-returns : tie.Need-returns Inv-loop μ-loop
-returns c =
-    let l = c .before .before .before .loop in
-    record { some = search needs; few = search needs; fits = rw (c .before .power .ensures) at (c .if1 .taken); least = l .inv .2 }
-
-loop-again : tie.Need-loop-again Inv-loop μ-loop
-loop-again c =
-    let l = c .before .before .before .loop in
-    let e : l .n + 1 - 1 ≡ l .n = omega arith in
-    (search needs, search needs, λ h. rw e (rw (c .before .power .ensures) at (c .if1 .left)))
-
-returns-2 : tie.Need-returns-2 Inv-loop μ-loop
-returns-2 c =
-    let l = c .before .loop in
-    let e : l .n ≡ 10 = omega arith in
-    record { some = search needs; few = search needs; fits = rw e (omega arith); least = l .inv .2 }
+μ-loop x n₀ rest₀ n rest = rest
 
 pub count-digits-spec : {M : Type 1} → statement M
 count-digits-spec =
@@ -35,10 +20,8 @@ count-digits-spec =
     (tie.spec
     Inv-loop
     μ-loop
-    (λ c. (search needs, search needs, λ h. absurd (omega arith)))
-    (λ c κs. search needs)
-    returns
-    (λ c. search needs)
-    (λ c. search needs)
-    loop-again
-    returns-2)
+    (λ c. (omega arith, omega arith))
+    (λ c. omega (arith, digits-few (c .before .before .args .x)))
+    (λ c. omega arith)
+    (λ c. (omega arith, omega (arith, digits-longer (c .before .loop .rest) (omega arith) (c .loop-test .taken))))
+    (λ c. omega (arith, digits-one (c .before .loop .rest) (omega (arith, c .loop-test .left)))))

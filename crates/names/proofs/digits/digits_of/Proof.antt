@@ -1,36 +1,15 @@
--- The loop's invariant: the first i bytes are digits, and the others zeros.
-use Prim.Native.Nat.{_-_, _≤_}
-use mathlib.Core.Path.{_≡_, refl, sym, _∙_}
+-- The loop's invariant: the digits after i are written, and those of the rest are left.
 use borrow.Author.Needs.{needs}
 use native.Mathlib.Omega.{arith}
-use Rattle.names.specs.Digits.{digits, Written}
-use Rattle.names.proofs.Decimals.{digits-length, digits-at, filled, filled-turn, filled-end}
+use Rattle.names.proofs.Decimals.{Filling, filling-start, filling-turn, filling-end, filling-inside, filling-some, digits-some}
 use Rattle.names.proofs.digits.digits_of.Statement.{statement}
 use Rattle.names.proofs.digits.digits_of.Tie as tie
 
 abbrev Inv-loop : tie.InvT-loop
-Inv-loop x n d₀ i₀ d i = (i ≤ n) × (d ≡ filled (digits x) i)
+Inv-loop x n d₀ rest₀ i₀ d rest i = Filling x n d rest i
 
 abbrev μ-loop : tie.MeasureT-loop
-μ-loop x n d₀ i₀ d i = n - i
-
-digit-requires : tie.Need-digit-requires Inv-loop μ-loop
-digit-requires c κs = (c .before .before .count-digits .ensures .few, search needs)
-
-array-write-d : tie.Need-array-write-d Inv-loop μ-loop
-array-write-d c = omega (arith, c .before .before .before .count-digits .ensures .few)
-
-loop-again : tie.Need-loop-again Inv-loop μ-loop
-loop-again c =
-    let l = c .before .before .loop in
-    let n = c .before .before .before .count-digits .ensures in
-    (search needs, rw (l .inv .1) (filled-turn (digits _) (l .i) _ (omega (arith, digits-length n)) (omega (arith, n .few)) (c .digit .ensures ∙ sym (digits-at n (l .i) (omega arith)))))
-
-returns : tie.Need-returns Inv-loop μ-loop
-returns c =
-    let l = c .before .loop in
-    let e : l .i ≡ c .before .before .count-digits .result = omega arith in
-    rw (l .inv .1, e) (filled-end (c .before .before .count-digits .ensures))
+μ-loop x n d₀ rest₀ i₀ d rest i = rest
 
 pub digits-of-spec : {M : Type 1} → statement M
 digits-of-spec =
@@ -39,10 +18,15 @@ digits-of-spec =
     Inv-loop
     μ-loop
     (λ c κs. search needs)
-    (λ c. (search needs, refl))
-    digit-requires
-    array-write-d
-    (λ c. search needs)
-    (λ c. search needs)
-    loop-again
-    returns)
+    (λ c. omega (arith, c .count-digits .ensures, digits-some (c .before .args .x) (omega arith)))
+    (λ c. filling-start (omega arith) (c .count-digits .ensures))
+    (λ c. omega arith)
+    (λ c. omega arith)
+    (λ c. filling-inside (c .before .loop .inv))
+    (λ c. filling-some (c .before .loop .inv) (omega arith) (c .loop-test .taken))
+    (λ c. omega arith)
+    (λ c. filling-turn (c .before .loop .inv) (omega arith) (c .loop-test .taken))
+    (λ c. omega (arith, c .loop-test .left))
+    (λ c. omega (arith, c .loop-test .left))
+    (λ c. filling-inside (c .before .loop .inv))
+    (λ c. filling-end (c .before .loop .inv) (c .before .before .count-digits .ensures) (omega (arith, c .loop-test .left))))
