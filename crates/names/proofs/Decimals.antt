@@ -1,4 +1,4 @@
--- The digits of a number by its tenth, and how they are counted and written from the last one on. Assumes nothing.
+-- The digits of a number by those of its tenth, and how they are written from the last to the first. Assumes nothing.
 use Prim.Native.Nat.{ℕ, zero, suc, _+_, _-_, _/_, _%_, _^_, _≤_, _<_}
 use native.Mathlib.Omega.{arith}
 use native.Mathlib.Numerals.{add-one}
@@ -11,26 +11,26 @@ use lib.Seq.{length-take-le, set-split, drop-at, append-snoc}
 use borrow.Author.Tests.{lt-ltb, le-ltb}
 use Rattle.names.specs.Digits.{decimal, digits, Written}
 
--- the cases of the definition, and the tenth that the second goes on with
+-- the cases of the definition, and that the second goes on with a number below the next power
 module _ (m x : ℕ) where
-  pub decimal-last : x < 10 → decimal (suc m) x ≡ (48 + x) ∷ []
+  pub decimal-single : x < 10 → decimal (suc m) x ≡ (48 + x) ∷ []
   unfolding decimal
-  decimal-last h = rw (lt-ltb x 10 h, decimal)
+  decimal-single h = rw (lt-ltb x 10 h, decimal)
 
   pub decimal-more : 10 ≤ x → decimal (suc m) x ≡ decimal m (x / 10) ++ ((48 + x % 10) ∷ [])
   unfolding decimal
   decimal-more h = rw (le-ltb x 10 h, decimal)
 
-  pub tenth : x < 10 ^ suc m → x / 10 < 10 ^ m
-  tenth h = div-lt-iff-lt-mul {k = 10} {x = x} {y = 10 ^ m} (omega arith) .1 (rw (← pow-suc) h)
+  pub tenth-below : x < 10 ^ suc m → x / 10 < 10 ^ m
+  tenth-below h = div-lt-iff-lt-mul {k = 10} {x = x} {y = 10 ^ m} (omega arith) .1 (rw (← pow-suc) h)
 
 -- where so many digits are enough, one more gives the same
 decimal-enough : (m x : ℕ) → x < 10 ^ suc m → decimal (suc m) x ≡ decimal (suc (suc m)) x
-decimal-enough zero x h = decimal-last 0 x h ∙ sym (decimal-last 1 x h)
-decimal-enough (suc m) x h = go (decLt x 10) (decimal-enough m (x / 10) (tenth (suc m) x h))
+decimal-enough zero x h = decimal-single 0 x h ∙ sym (decimal-single 1 x h)
+decimal-enough (suc m) x h = go (decLt x 10) (decimal-enough m (x / 10) (tenth-below (suc m) x h))
   where
     go : Dec (x < 10) → decimal (suc m) (x / 10) ≡ decimal (suc (suc m)) (x / 10) → decimal (suc (suc m)) x ≡ decimal (suc (suc (suc m))) x
-    go (yes p) r = decimal-last (suc m) x p ∙ sym (decimal-last (suc (suc m)) x p)
+    go (yes p) r = decimal-single (suc m) x p ∙ sym (decimal-single (suc (suc m)) x p)
     go (no p) r = decimal-more (suc m) x (omega arith) ∙ ap (λ (ds : List ℕ). ds ++ ((48 + x % 10) ∷ [])) r ∙ sym (decimal-more (suc (suc m)) x (omega arith))
 
 decimal-few : (m x : ℕ) → length (decimal m x) ≤ m
@@ -39,14 +39,14 @@ decimal-few zero x = omega arith
 decimal-few (suc m) x = go (decLt x 10) (decimal-few m (x / 10))
   where
     go : Dec (x < 10) → length (decimal m (x / 10)) ≤ m → length (decimal (suc m) x) ≤ suc m
-    go (yes p) r = rw (decimal-last m x p) (omega arith)
+    go (yes p) r = rw (decimal-single m x p) (omega arith)
     go (no p) r = rw (decimal-more m x (omega arith), length-append) (omega arith)
 
 module _ (x : ℕ) where
   -- a number below ten is its own digit
-  pub digits-last : x < 10 → digits x ≡ (48 + x) ∷ []
+  pub digits-single : x < 10 → digits x ≡ (48 + x) ∷ []
   unfolding digits
-  digits-last = decimal-last 9 x
+  digits-single = decimal-single 9 x
 
   -- another has the digits of its tenth, and the remainder
   pub digits-more : x < 2 ^ 32 → 10 ≤ x → digits x ≡ digits (x / 10) ++ ((48 + x % 10) ∷ [])
@@ -55,7 +55,7 @@ module _ (x : ℕ) where
 
   -- so it has one digit, or one more than its tenth
   pub digits-one : x < 10 → length (digits x) ≡ 1
-  digits-one h = ap length (digits-last h)
+  digits-one h = ap length (digits-single h)
 
   pub digits-longer : x < 2 ^ 32 → 10 ≤ x → length (digits x) ≡ length (digits (x / 10)) + 1
   digits-longer l h = ap length (digits-more l h) ∙ length-append (digits (x / 10)) ((48 + x % 10) ∷ [])
@@ -130,5 +130,5 @@ module _ {x n rest i : ℕ} {d : List ℕ} (f : Filling x n d rest i) where
       record {
         within = omega (arith, digits-few x, length-set d i (48 + rest), f .long);
         count = e;
-        content = ap (λ (k : ℕ). drop k (set d i (48 + rest))) (sym z) ∙ put-digit [] (48 + rest) (digits-last rest h);
+        content = ap (λ (k : ℕ). drop k (set d i (48 + rest))) (sym z) ∙ put-digit [] (48 + rest) (digits-single rest h);
       }

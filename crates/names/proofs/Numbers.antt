@@ -6,7 +6,7 @@ use mathlib.Core.Path.{_≡_, refl}
 use mathlib.Core.List.{List, [], _∷_, _++_}
 use lib.ListN.{getD}
 use Rattle.names.specs.Digits.{decimal, digits}
-use Rattle.names.proofs.Decimals.{decimal-last, decimal-more, tenth}
+use Rattle.names.proofs.Decimals.{decimal-single, decimal-more, tenth-below}
 
 -- the number that bytes say as decimal digits after those of a number n
 unfoldable pub said : ℕ → List ℕ → ℕ
@@ -21,10 +21,10 @@ said-snoc n (c ∷ cs) b = said-snoc (n * 10 + (c - 48)) cs b
 decimal-said : (m x : ℕ) → x < 10 ^ m → said 0 (decimal m x) ≡ x
 unfolding decimal said
 decimal-said zero x h = omega (arith, h)
-decimal-said (suc m) x h = go (decLt x 10) (decimal-said m (x / 10) (tenth m x h))
+decimal-said (suc m) x h = go (decLt x 10) (decimal-said m (x / 10) (tenth-below m x h))
   where
     go : Dec (x < 10) → said 0 (decimal m (x / 10)) ≡ x / 10 → said 0 (decimal (suc m) x) ≡ x
-    go (yes p) r = rw (decimal-last m x p) (omega arith)
+    go (yes p) r = rw (decimal-single m x p) (omega arith)
     go (no p) r = rw (decimal-more m x (omega arith), said-snoc, r) (omega arith)
 
 -- "exactly the decimal digits of the number"
@@ -38,12 +38,11 @@ first-append [] ys h = absurd (omega arith)
 first-append (x ∷ xs) ys h = h
 
 decimal-first : (m x : ℕ) → 0 < x → x < 10 ^ m → 48 < getD (decimal m x) 0 0
-unfolding decimal
 decimal-first zero x l h = absurd (omega arith)
-decimal-first (suc m) x l h = go (decLt x 10) (λ p. decimal-first m (x / 10) (omega arith) (tenth m x h))
+decimal-first (suc m) x l h = go (decLt x 10) (λ p. decimal-first m (x / 10) (omega arith) (tenth-below m x h))
   where
     go : Dec (x < 10) → (10 ≤ x → 48 < getD (decimal m (x / 10)) 0 0) → 48 < getD (decimal (suc m) x) 0 0
-    go (yes p) r = rw (decimal-last m x p) (omega arith)
+    go (yes p) r = rw (decimal-single m x p) (omega arith)
     go (no p) r = rw (decimal-more m x (omega arith)) (first-append (decimal m (x / 10)) ((48 + x % 10) ∷ []) (r (omega arith)))
 
 -- "no leading zero": only 0 begins with one

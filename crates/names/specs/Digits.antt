@@ -6,8 +6,8 @@ use mathlib.Core.List.{List, [], _∷_, _++_}
 use lib.ListN.{length, replicate}
 use lib.Dec.{ltb}
 
--- the digits of n as bytes, most significant first, none of them a leading zero; so many at most:
--- "divide by ten and take the remainder"
+-- the digits of n as bytes, most significant first, none of them a leading zero; so many at most
+-- 2.4: "divide by ten and take the remainder"
 unfoldable pub decimal : (most n : ℕ) → List ℕ
 decimal zero n = []
 decimal (suc most) n = elim (ltb n 10) [ true ↦ (48 + n) ∷ [] | false ↦ decimal most (n / 10) ++ ((48 + n % 10) ∷ []) ]

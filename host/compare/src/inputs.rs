@@ -27,9 +27,9 @@ pub enum Sort {
 }
 
 impl Sort {
-    /// Whether it has no number.
-    pub fn is_fixed(self) -> bool {
-        matches!(self, Sort::Row | Sort::Pattern)
+    /// Whether its inputs have numbers.
+    pub fn is_numbered(self) -> bool {
+        !matches!(self, Sort::Row | Sort::Pattern)
     }
 }
 

@@ -6,11 +6,10 @@
 use host::answers::{is_done, is_unrun, sum, without_tables, Expected, CORPUS, LOOKUPS};
 use host::image::{option_bits, Case, Input, OPTIONS};
 use host::lent::{Memory, Side, Words};
-use host::patterns::patterns;
 use host::report::{fail, require, row};
 use host::rules::Rules;
 use host::stack::{on_stack, DEFAULT_STACK, STACK, WHOLE_STACK};
-use host::{answers, corpus, deep, report};
+use host::{answers, corpus, deep, patterns, report};
 use infer_types::{infer_types, infer_types_into, Answer, Refusal, Runner, Tables, LIMIT};
 use std::io::Write;
 use std::time::Instant;
@@ -193,10 +192,10 @@ fn compare_safe(case: &Case, result: Result<&Tables, Refusal>, expected: Expecte
 fn main() {
     let arguments: Vec<String> = std::env::args().skip(1).collect();
     match arguments.iter().map(String::as_str).collect::<Vec<_>>()[..] {
-        // the answers in it mean nothing
+        // the answers in them mean nothing
         ["--write", folder] => {
             corpus::write_file(&format!("{folder}/deep.corpus"), &deep::deep(), corpus::write);
-            corpus::write_file(&format!("{folder}/patterns.corpus"), &patterns(), corpus::write);
+            corpus::write_file(&format!("{folder}/patterns.corpus"), &patterns::patterns(), corpus::write);
         }
         [folder] => {
             report::watch();

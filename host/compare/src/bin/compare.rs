@@ -1,7 +1,7 @@
 //! Images through the library and through the Rust; what document 01 says is equal has to be.
 //!
-//!     compare FIRST COUNT SECONDS         the rows, array patterns and the inputs of these numbers, until the
-//!                                         seconds are over
+//!     compare FIRST COUNT SECONDS         the rows, the array patterns and the inputs of these numbers,
+//!                                         until the seconds are over
 //!     compare --list FILE                 writes the fixed list: inputs with the Rust's answers
 //!     compare --write FILE FIRST COUNT    writes the inputs of these numbers, for another judge
 //!     compare --stored FILE..             holds the answers of files to the Rust
@@ -62,10 +62,11 @@ fn judge_library(first: u64, count: u64, seconds: u64) -> Counts {
             break;
         }
         let (answer, held) = judge.ask(&input);
-        let held = held.and_then(|held| match answer.number == 0 && (number % 16 == 0 || sort.is_fixed()) {
-            true => around(&mut judge.library, &input, &answer).map(|()| held),
-            false => Ok(held),
-        });
+        let held =
+            held.and_then(|held| match answer.number == 0 && (number % 16 == 0 || !sort.is_numbered()) {
+                true => around(&mut judge.library, &input, &answer).map(|()| held),
+                false => Ok(held),
+            });
         match held {
             Ok(held) => counts.add(Some(sort), &input, answer.number, held),
             Err(message) => {

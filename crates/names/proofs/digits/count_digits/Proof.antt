@@ -1,4 +1,4 @@
--- The loop's invariant: the digits counted and those of the rest are one more than those of x.
+-- The loop's invariant: n and the number of the rest's digits are together one more than x has.
 use Prim.Native.Nat.{_+_, _≤_}
 use mathlib.Core.Path.{_≡_}
 use native.Mathlib.Omega.{arith}
@@ -14,6 +14,12 @@ Inv-loop x n₀ rest₀ n rest = (rest ≤ x) × (n + length (digits rest) ≡ 1
 abbrev μ-loop : tie.MeasureT-loop
 μ-loop x n₀ rest₀ n rest = rest
 
+loop-again : tie.Need-loop-again Inv-loop μ-loop
+loop-again c = (omega arith, omega (arith, digits-longer (c .before .loop .rest) (omega arith) (c .loop-test .taken)))
+
+returns : tie.Need-returns Inv-loop μ-loop
+returns c = omega (arith, digits-one (c .before .loop .rest) (omega (arith, c .loop-test .left)))
+
 pub count-digits-spec : {M : Type 1} → statement M
 count-digits-spec =
     tie.close
@@ -23,5 +29,5 @@ count-digits-spec =
     (λ c. (omega arith, omega arith))
     (λ c. omega (arith, digits-few (c .before .before .args .x)))
     (λ c. omega arith)
-    (λ c. (omega arith, omega (arith, digits-longer (c .before .loop .rest) (omega arith) (c .loop-test .taken))))
-    (λ c. omega (arith, digits-one (c .before .loop .rest) (omega (arith, c .loop-test .left)))))
+    loop-again
+    returns)
