@@ -39,12 +39,12 @@ fn pattern(
         elements[position] = Element::Place(image.identifier());
     }
     let entries: Vec<String> = entries.collect();
-    let types = entries.iter().map(|text| {
+    let mut own_type = || {
         let shape = image.absent_shape();
-        (text.as_str(), image.object(shape))
-    });
-    let types: Vec<_> = types.collect();
-    let shape = image.shape(&types);
+        image.object(shape)
+    };
+    let properties: Vec<_> = entries.iter().map(|text| (text.as_str(), own_type())).collect();
+    let shape = image.shape(&properties);
     let of_value = image.object(shape);
     let mut block = Block::new();
     block.load_global(value, Some(of_value)).destructure_array(pattern, &elements, value);
@@ -52,7 +52,5 @@ fn pattern(
     image.body(function, Body::other(out).block(block));
 
     let image = image.finish().expect("a body");
-    let mut input = Input { image: image.words, names: image.names, budget: BUDGET, work: 0 };
-    input.lend_enough();
-    Case { name: name.into(), input, expected: 0 }
+    Case { name: name.into(), input: Input::new(image.words, image.names, BUDGET), expected: 0 }
 }

@@ -73,13 +73,13 @@ digits-few = decimal-few 10
 
 -- the bytes after i are written: with the digits of the rest before them they are the record of x, which has n digits
 pub record Filling (x n : ℕ) (d : List ℕ) (rest i : ℕ) : Type 0 where
-  pub within : rest ≤ x
+  pub fits : rest < 2 ^ 32
   pub long : length d ≡ 10
   pub left : i + 1 ≡ length (digits rest)
   pub content : digits rest ++ drop (i + 1) d ≡ digits x ++ replicate (10 - n) 0
 
 pub filling-start : {x n : ℕ} → x < 2 ^ 32 → n ≡ length (digits x) → Filling x n (replicate 10 0) x (n - 1)
-filling-start {x} {n} l e = record { within = omega arith; long = refl; left = s ∙ e; content = rw (s, zeros) refl }
+filling-start {x} {n} l e = record { fits = l; long = refl; left = s ∙ e; content = rw (s, zeros) refl }
   where
     s : n - 1 + 1 ≡ n
     s = omega (arith, digits-some x l)
@@ -106,22 +106,22 @@ module _ {x n rest i : ℕ} {d : List ℕ} (f : Filling x n d rest i) where
       ∙ sym (append-snoc ds b (drop (suc i) d))
       ∙ rw (← e, ← add-one i) (f .content)
 
-  module _ (l : x < 2 ^ 32) (h : 10 ≤ rest) where
+  module _ (h : 10 ≤ rest) where
     -- as many digits stand before it
     filling-before : i ≡ length (digits (rest / 10))
-    filling-before = omega (arith, f .left, digits-longer rest (omega (arith, f .within)) h)
+    filling-before = omega (arith, f .left, digits-longer rest (f .fits) h)
 
     pub filling-some : 1 ≤ i
-    filling-some = omega (arith, filling-before, digits-some (rest / 10) (omega (arith, f .within)))
+    filling-some = omega (arith, filling-before, digits-some (rest / 10) (omega (arith, f .fits)))
 
     pub filling-turn : Filling x n (set d i (48 + rest % 10)) (rest / 10) (i - 1)
     filling-turn =
         let s : i - 1 + 1 ≡ i = omega (arith, filling-some) in
         record {
-          within = omega (arith, f .within);
+          fits = omega (arith, f .fits);
           long = length-set d i (48 + rest % 10) ∙ f .long;
           left = s ∙ filling-before;
-          content = rw s (put-digit (digits (rest / 10)) (48 + rest % 10) (digits-more rest (omega (arith, f .within)) h));
+          content = rw s (put-digit (digits (rest / 10)) (48 + rest % 10) (digits-more rest (f .fits) h));
         }
 
   pub filling-end : n ≡ length (digits x) → rest < 10 → Written x (set d i (48 + rest)) n

@@ -11,9 +11,7 @@ fn image(make: impl FnOnce(&mut Builder) -> Vec<Block>) -> Input {
     let out = image.identifier();
     image.body(function, blocks.into_iter().fold(Body::other(out), Body::block));
     let image = image.finish().expect("one body");
-    let mut input = Input { image: image.words, names: image.names, budget: 1_024, work: 0 };
-    input.lend_enough();
-    input
+    Input::new(image.words, image.names, 1_024)
 }
 
 fn identifiers<const N: usize>(image: &mut Builder) -> [Identifier; N] {

@@ -448,9 +448,7 @@ impl Image {
         words[OPTIONS] = self.options;
         words[HOOK] = self.hook;
         words[LENGTH] = words.len() as u32;
-        let mut input = Input { image: words, names: self.bytes.clone(), budget: 1_024, work: 0 };
-        input.lend_enough();
-        input
+        Input::new(words, self.bytes.clone(), 1_024)
     }
 
     /// The position and role of each body word of an input that this image was written as.
@@ -474,6 +472,13 @@ pub struct Input {
 }
 
 impl Input {
+    /// With as many work words as are asked for.
+    pub fn new(image: Vec<u32>, names: Vec<u8>, budget: u32) -> Input {
+        let mut input = Input { image, names, budget, work: 0 };
+        input.lend_enough();
+        input
+    }
+
     /// As many work words as are asked for.
     pub fn lend_enough(&mut self) {
         self.work = 8 * (self.image.len() + self.budget as usize);

@@ -15,7 +15,7 @@ some-digit : tie.Need-sub-i Inv-loop μ-loop
 some-digit c = omega (arith, c .count-digits .ensures, digits-some (c .before .args .x) (omega arith))
 
 loop-again : tie.Need-loop-again Inv-loop μ-loop
-loop-again c = filling-turn (c .before .loop .inv) (omega arith) (c .loop-test .taken)
+loop-again c = filling-turn (c .before .loop .inv) (c .loop-test .taken)
 
 returns : tie.Need-returns Inv-loop μ-loop
 returns c = filling-end (c .before .loop .inv) (c .before .before .count-digits .ensures) (omega (arith, c .loop-test .left))
@@ -32,7 +32,7 @@ digits-of-spec =
     (λ c. omega arith)
     (λ c. omega arith)
     (λ c. filling-inside (c .before .loop .inv))
-    (λ c. filling-some (c .before .loop .inv) (omega arith) (c .loop-test .taken))
+    (λ c. filling-some (c .before .loop .inv) (c .loop-test .taken))
     (λ c. omega arith)
     loop-again
     (λ c. omega (arith, c .loop-test .left))
