@@ -1,4 +1,6 @@
 // A list of images, each run as by its own call, their tables one after another.
+#![tactic(auto)]
+
 ghost use Rattle.std.specs.Prelude.{◌≡◌, true, ◌+◌, ◌*◌, ◌-◌, ◌/◌, ◌≤◌, length};
 ghost use Rattle.run_answer.specs.Lent.{put, answer_of};
 ghost use Rattle.batch.specs.Batch.{screen_at, screens_of, list_fits, screen_inside, screens_inside, answer_row, not_run_rows, own_image, own_names};
@@ -16,7 +18,7 @@ const ANSWER_ROW: usize = 9;
 const MOST_IMAGES: usize = 256;
 
 // A row of the list.
-#[derive(Drop)]
+#[derive(Clone, Copy)]
 struct Screen {
     image_start: u32,
     image_words: u32,

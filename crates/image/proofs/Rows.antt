@@ -1,5 +1,5 @@
 -- Rows of tables: where they stand. Assumes nothing.
-use Prim.Native.Nat.{ℕ, zero, suc, ◌+◌, ◌*◌, ◌≤◌, ◌<◌}
+use Prim.Native.Nat.{ℕ, suc, ◌+◌, ◌*◌, ◌≤◌, ◌<◌}
 use native.Mathlib.Omega.{arith}
 use native.Mathlib.Nat.{mul-le-mul_left, mul-le-mul_right, suc-mul}
 use mathlib.Core.Path.{◌≡◌}
@@ -8,7 +8,7 @@ use lib.ListN.{length}
 use Rattle.image.specs.declared.Table.{Table}
 use Rattle.image.specs.declared.Table.TheVariants.{Names, Identifiers, Slots, Types, Lists, Shapes, Properties, Functions}
 use Rattle.image.specs.Image.{count, offset, width, header_place}
-use Rattle.image.specs.Laid.{Laid, InTable}
+use Rattle.image.specs.Laid.{InTable}
 
 -- a table's two header words stand in the header
 pub place_low : (t : Table) → header_place t ≤ 17

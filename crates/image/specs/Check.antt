@@ -2,7 +2,7 @@
 use Rattle.std.specs.Prelude.{ℕ, zero, suc, ◌+◌, ◌*◌, Bool, true, false, ◌&&◌, ◌||◌, List, [], ◌∷◌, length, eqb, leb, ltb}
 use Rattle.std.proofs.Math.Option.{Option, none, some}
 use Rattle.names.specs.Names.{same}
-use Rattle.image.specs.Ty.{NONE, Ty, size}
+use Rattle.image.specs.Ty.{NONE, size}
 use Rattle.image.specs.declared.Table.{Table}
 use Rattle.image.specs.declared.Table.TheVariants.{Names, Identifiers, Slots, Types, Lists, Shapes, Properties, Functions}
 use Rattle.image.specs.Image.{word, version, header_words, most_options, count, offset, width, cell, name_at, Node, node_var, node_leaf, node_object, node_function, node_phi, node_other, node_at, operands, type_at}

@@ -1,4 +1,6 @@
 // The image: its accessors, and names for the numbers of its format.
+#![tactic(auto)]
+
 ghost use Rattle.std.specs.Prelude.{◌≡◌, ◌+◌, ◌≤◌, ◌<◌, length};
 ghost use Rattle.image.specs.Image.{word, width, header_place, count as count_of, offset as offset_of, cell as cell_of, limits as LimitsOf, name_at};
 ghost use Rattle.image.specs.Laid.{Laid, InTable, NamesInside};
@@ -21,7 +23,7 @@ pub const LIMIT: usize = 65536;
 pub const WORK_WORDS_EACH: usize = 8;
 
 // The tables, in the header's order.
-#[derive(Drop)]
+#[derive(Clone, Copy)]
 pub enum Table {
     Names,
     Identifiers,
@@ -34,7 +36,7 @@ pub enum Table {
 }
 
 // The counts that bound the numbers in a body.
-#[derive(Drop)]
+#[derive(Clone, Copy)]
 pub struct Limits {
     pub names: u32,
     pub identifiers: u32,
@@ -43,11 +45,11 @@ pub struct Limits {
 }
 
 // The number of an identifier.
-#[derive(Drop)]
+#[derive(Clone, Copy)]
 pub struct IdentifierId(pub u32);
 
 // The number of a slot, which is the number of its type variable.
-#[derive(Drop)]
+#[derive(Clone, Copy)]
 pub struct TypeId(pub u32);
 
 fn header_place(t: Table) -> usize

@@ -1,4 +1,6 @@
 // Refusals 9 and 10: the bodies of functions.
+#![tactic(auto)]
+
 mod body;
 pub mod nesting;
 pub mod overlap;

@@ -12,7 +12,7 @@ use image::{Limits, Table, cell, count, limits_of, refusals};
 use image_instructions::read::Next;
 
 // A body with a word not allowed, ending early or with words over; else a function named wrongly or twice; else neither.
-#[derive(Drop)]
+#[derive(Clone, Copy)]
 pub enum Bodies {
     Broken,
     Misnested,

@@ -1,4 +1,6 @@
 // The check: 0, or the first of the refusals 1 to 10 that is due.
+#![tactic(auto)]
+
 ghost use Rattle.std.specs.Prelude.{◌≡◌};
 ghost use Rattle.image.specs.Check.{unless, bodies_sound, check_tables, check as check_of};
 ghost use Rattle.image.specs.Nesting.{nesting_sound};

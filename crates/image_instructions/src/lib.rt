@@ -1,4 +1,6 @@
 // Refusals 9 and 10: instructions and the other parts of a body, and the functions that they name.
+#![tactic(auto)]
+
 pub mod instruction;
 mod marks;
 pub mod read;

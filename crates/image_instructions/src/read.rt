@@ -6,7 +6,7 @@ ghost use Rattle.image_instructions.specs.Cursor.{Cursor, Ends};
 use image::{Limits, markers};
 
 // Where reading goes on, or that a word is not allowed at its position or is missing.
-#[derive(Drop)]
+#[derive(Clone, Copy)]
 pub enum Next {
     Broken,
     To(usize),

@@ -1,4 +1,6 @@
 // Refusals 5 and 6: the header, and the numbers and ranges in the tables.
+#![tactic(auto)]
+
 ghost use Rattle.std.specs.Prelude.{◌≡◌, ◌&&◌, ◌+◌, ◌≤◌, length};
 ghost use Rattle.image.specs.Laid.{Laid, InTable};
 ghost use Rattle.image.specs.Check.{inside as range_inside, in_table, in_table_or_none, table_fits, tables_fit, header_sound, reference_sound, table_sound, references_sound};

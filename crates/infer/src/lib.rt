@@ -1,4 +1,6 @@
 // The run: from image check to tables.
+#![tactic(auto)]
+
 ghost use Rattle.infer.specs.Entry.{Infers};
 ghost use Rattle.infer.specs.Run.{Runs};
 ghost use Rattle.run_solve.specs.Solve.{RunAsked};

@@ -1,4 +1,6 @@
 // Reads an image, its names and a budget from standard input, and prints what the run answers.
+#![tactic(auto)]
+
 ghost use Rattle.std.specs.Prelude.{◌≤◌, ◌<◌, ◌≡◌, length};
 
 use image::{WORK_WORDS_EACH, type_kinds};

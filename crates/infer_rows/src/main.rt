@@ -1,5 +1,7 @@
 // Rows A to L of document 01 and its edges, through the compiled library. The images are written as decimal
 // words, "-" for NONE: the header; names, identifiers, slots and types; nine absent shapes; the function and its body.
+#![tactic(auto)]
+
 ghost use Rattle.std.specs.Prelude.{◌≤◌, ◌<◌, ◌≡◌, length};
 
 use image::NONE;
@@ -9,14 +11,14 @@ use libc::STDOUT_FILENO;
 const HELD: u32 = 77;
 
 // An image, and zeros after it.
-#[derive(Drop)]
+#[derive(Clone, Copy)]
 struct Image {
     words: [u32; 128],
     len: usize,
 }
 
 // What a run is lent: a budget, work words fewer than are asked for, table words.
-#[derive(Drop)]
+#[derive(Clone, Copy)]
 struct Lent {
     budget: u32,
     fewer: usize,

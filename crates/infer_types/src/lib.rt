@@ -1,4 +1,6 @@
 // What hosts call: the functions of the archive, each with the contract of what it calls.
+#![tactic(auto)]
+
 ghost use Rattle.std.specs.Prelude.{◌≡◌};
 ghost use Rattle.image.specs.Check.{check as check_of};
 ghost use Rattle.infer.specs.Entry.{Infers};

@@ -1,4 +1,6 @@
 // A run and the listing that explains a slot's type.
+#![tactic(auto)]
+
 ghost use Rattle.std.specs.Prelude.{◌≡◌};
 ghost use Rattle.run_tables.specs.Writing.{counting, writing, table};
 ghost use Rattle.run_solve.specs.Solve.{RunAsked};
@@ -14,7 +16,7 @@ use run_tables::{put_one, put_two, type_size, write_type};
 
 // The answer of a run, and the words of its listing.
 #[repr(C)]
-#[derive(Drop)]
+#[derive(Clone, Copy)]
 pub struct ListingAnswer {
     pub answer: Answer,
     pub listing_words: u32,

@@ -1,1 +1,2 @@
 // The definition of the listing and its laws, without code.
+#![tactic(auto)]

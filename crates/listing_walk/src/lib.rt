@@ -1,4 +1,6 @@
 // The variables of a listing, in order: depth first, each once. They stand where a finished run has done with the work words.
+#![tactic(auto)]
+
 ghost use Rattle.std.specs.Prelude.{◌≡◌, ℕ};
 ghost use Rattle.listing_walk.specs.Walk.{order_at, mark_at, Places, Placed, PushAsked, Pushes, PushAllAsked, PushesAll, SeekAsked, Seeks, ListAsked, ListsOne, ListsAsked, ListsAll};
 

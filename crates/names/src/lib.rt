@@ -1,4 +1,6 @@
 // Tests on names, which are parts of the name bytes, and the decimal digits of an array position.
+#![tactic(auto)]
+
 ghost use Rattle.std.specs.Prelude.{◌≡◌};
 ghost use Rattle.names.specs.Names.{same, between as byte_between, starts_with, ends_with, starts_with_set, is_upper_or_digit, is_hook_name, starts_a_ref, is_ref_like_object, is_ref_like_name};
 

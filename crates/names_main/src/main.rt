@@ -1,4 +1,6 @@
 // Rows H and I of document 01 and some array positions, through the compiled functions of `names`.
+#![tactic(auto)]
+
 use libc::STDOUT_FILENO;
 
 fn say(text: &[u8]) {

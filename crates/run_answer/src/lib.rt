@@ -1,11 +1,13 @@
 // The answer of a run, and words that are set to zero.
+#![tactic(auto)]
+
 ghost use Rattle.std.specs.Prelude.{◌≡◌, ◌≤◌, length};
 ghost use Rattle.run_definition.specs.Infer.{refusal as refusal_of};
 ghost use Rattle.run_answer.specs.Lent.{answer_of, cleared};
 
 // Document 01's answer, and document 02's four counts of lookups: by the exact name, the "*" entry, the hook rule, and nothing.
 #[repr(C)]
-#[derive(Drop)]
+#[derive(Clone, Copy)]
 pub struct Answer {
     pub number: u32,
     pub steps: u32,

@@ -1,4 +1,6 @@
 // apply_function: the type of each visited slot is resolved.
+#![tactic(auto)]
+
 ghost use Rattle.std.specs.Prelude.{ℕ, ◌+◌, ◌<◌};
 ghost use Rattle.image.specs.Image.{word, count};
 ghost use Rattle.image.specs.Program.{program};
@@ -14,7 +16,7 @@ use unifier_nodes::state::State;
 use unifier_resolve::get;
 
 // The steps left, the next free word of nodes, 0 or a refusal, and where reading goes on in the image.
-#[derive(Drop)]
+#[derive(Clone, Copy)]
 pub struct Pass {
     pub left: u32,
     pub top: u32,

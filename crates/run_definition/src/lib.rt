@@ -1,1 +1,2 @@
 // The definition of the run and its laws, without code.
+#![tactic(auto)]

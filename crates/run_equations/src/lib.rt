@@ -1,6 +1,8 @@
 // The equations of the instructions that read and log no name, of parameters, phis and returns.
 // An instruction at a position has its lvalue at + 1, aux at + 2, the number of its items at + 3, and the items from + 4 on, of three
 // words each: tag, identifier, key. So the identifiers of the first two stand at + 5 and + 8.
+#![tactic(auto)]
+
 ghost use Rattle.std.specs.Prelude.{◌≡◌, ◌+◌, ◌<◌, false, ◌&&◌, eqb};
 ghost use mathlib.Core.List.{[], ◌∷◌, ◌++◌, flat_map};
 ghost use Rattle.image.specs.Ty.{JSX, OBJECT, FUNCTION, prim, method, object as object_type, func};

@@ -1,4 +1,6 @@
 // generate: the equations of a function and of those in it, unified as they come.
+#![tactic(auto)]
+
 ghost use Rattle.std.specs.Prelude.{◌+◌, false, [], ◌∷◌};
 ghost use Rattle.image.specs.Ty.{FUNCTION, func};
 ghost use Rattle.image.specs.Image.{word, cell as cell_of};

@@ -1,4 +1,6 @@
 // Where things stand in the work words, and what is laid out there before the first equation.
+#![tactic(auto)]
+
 ghost use Rattle.std.specs.Prelude.{◌≡◌};
 ghost use Rattle.run_definition.specs.Position.{after_phis, after_instructions};
 ghost use Rattle.run_definition.specs.Fitting.{PhisFit};
@@ -20,7 +22,7 @@ pub const OWN_WORDS: u32 = OWN_OBJECTS + OWN_SHAPES * NODE_WORDS;
 
 // The image's slots; where the nodes start; the lists of the image's Phis; by image position the slot of the identifier there; by
 // a body's position the slots that it returns; the own nodes; where nodes are made; the operands in hand; the names log; the slots' types.
-#[derive(Drop)]
+#[derive(Clone, Copy)]
 pub struct Layout {
     pub slots: u32,
     pub lo: u32,

@@ -1,4 +1,6 @@
 // The names log, and the equations that read it.
+#![tactic(auto)]
+
 ghost use Rattle.std.specs.Prelude.{◌+◌, ◌≡◌, [], ◌∷◌};
 ghost use Rattle.image.specs.Ty.{var};
 ghost use Rattle.image.specs.Image.{word};

@@ -1,4 +1,6 @@
 // A run up to its final state in the work words: nothing is written yet.
+#![tactic(auto)]
+
 ghost use Rattle.std.specs.Prelude.{◌≡◌};
 ghost use Rattle.run_solve.specs.Solve.{first_walk, RunAsked, Solves};
 
@@ -10,7 +12,7 @@ use run_walk::Walk;
 use unifier_counts::Counts;
 
 // The answer of the run with its tables, and where its final state stands.
-#[derive(Drop)]
+#[derive(Clone, Copy)]
 pub struct Solved {
     pub answer: Answer,
     pub lay: Layout,

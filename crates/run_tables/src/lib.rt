@@ -1,4 +1,6 @@
 // The tables: every slot's type, then each bound slot's number and binding.
+#![tactic(auto)]
+
 ghost use Rattle.std.specs.Prelude.{◌≡◌, ◌+◌, ◌≤◌, length};
 ghost use mathlib.Core.List.{[], ◌∷◌, flat_map};
 ghost use Rattle.image.specs.Ty.{written};
@@ -13,7 +15,7 @@ use unifier_counts::Counts;
 use unifier_nodes::node::{Node, node_at};
 
 // Words of the tables, and rows of the binding table.
-#[derive(Drop)]
+#[derive(Clone, Copy)]
 struct Size {
     words: u32,
     bindings: u32,

@@ -1,4 +1,6 @@
 // The state of generate, and one equation at a time.
+#![tactic(auto)]
+
 ghost use Rattle.std.specs.Prelude.{◌≡◌, ◌+◌, ◌*◌, ◌≤◌, ◌<◌, length};
 ghost use Rattle.image.specs.Image.{word, cell};
 ghost use Rattle.image.specs.Laid.{Laid};
@@ -14,7 +16,7 @@ use unifier_nodes::state::State;
 
 // The steps left, the next free word of nodes, 0 or a refusal, the next slot to be made, the end of the names log, where reading
 // goes on in the image, and the counts of the lookups so far.
-#[derive(Drop)]
+#[derive(Clone, Copy)]
 pub struct Walk {
     pub left: u32,
     pub top: u32,

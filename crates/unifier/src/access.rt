@@ -15,14 +15,14 @@ use unifier_properties::{Entry, Key, Lookup, resolve_property_type, shape_of};
 use unifier_resolve::get;
 
 // What unify with a Property leaves: the state, and what gave the property its type.
-#[derive(Drop)]
+#[derive(Clone, Copy)]
 pub struct Accessed {
     pub state: State,
     pub given: GivenBy,
 }
 
 // Where the nodes start; the first node of the image's types; the nodes of the Objects of shapes USE_REF and REF_VALUE.
-#[derive(Drop)]
+#[derive(Clone, Copy)]
 pub struct Places {
     pub lo: u32,
     pub types: u32,

@@ -105,7 +105,7 @@ fn bind_unbound(w: &mut [u32], lo: u32, st: State, slot: TypeId, ty: u32) -> Sta
 }
 
 // The state, and the candidate of a Phi's operands, where the state is not refused.
-#[derive(Drop)]
+#[derive(Clone, Copy)]
 struct Chosen {
     st: State,
     candidate: Candidate,

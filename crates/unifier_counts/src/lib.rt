@@ -1,11 +1,13 @@
 // Which rule gave a property its type, and how many lookups each rule gave.
+#![tactic(auto)]
+
 ghost use Rattle.std.specs.Prelude.{◌≡◌, ◌<◌};
 ghost use Rattle.unifier_counts.specs.Given.{given_by_answer, counted_by, lookups};
 
 use unifier_properties::Lookup;
 
 // What gave a property its type; NoLookup where none was made.
-#[derive(Drop)]
+#[derive(Clone, Copy)]
 pub enum GivenBy {
     ExactName,
     StarEntry,
@@ -16,7 +18,7 @@ pub enum GivenBy {
 
 // How many lookups the exact name, the "*" entry, the hook rule and nothing gave. A lookup takes two steps of at most 65,536, so
 // 16 bits are enough.
-#[derive(Drop)]
+#[derive(Clone, Copy)]
 pub struct Counts {
     pub exact: u16,
     pub star: u16,

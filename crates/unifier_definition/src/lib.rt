@@ -1,1 +1,2 @@
 // The definition of the unifier and its laws, without code.
+#![tactic(auto)]

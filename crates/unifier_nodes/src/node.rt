@@ -8,7 +8,7 @@ use image::{Table, TypeId, cell, shapes, type_kinds};
 // The words of a node.
 pub const NODE_WORDS: u32 = 3;
 
-#[derive(Drop)]
+#[derive(Clone, Copy)]
 pub enum Node {
     Var(TypeId),
     Primitive,
@@ -76,7 +76,7 @@ pub fn node_of_type(img: &[u32], types: u32, t: u32) -> u32
 }
 
 // The candidate type, or none.
-#[derive(Drop)]
+#[derive(Clone, Copy)]
 pub enum Candidate {
     Found(u32),
     Nothing,

@@ -2,7 +2,7 @@
 ghost use Rattle.std.specs.Prelude.{◌≡◌};
 
 // The steps left; the next free word; where the operands in hand start; 0, or the number of a refusal.
-#[derive(Drop)]
+#[derive(Clone, Copy)]
 pub struct State {
     pub left: u32,
     pub top: u32,
@@ -25,7 +25,7 @@ pub fn refuse(st: State, left: u32, number: u32) -> State
 }
 
 // A node, and the state after it was made, but for the operands in hand, which are as before.
-#[derive(Drop)]
+#[derive(Clone, Copy)]
 pub struct Got {
     pub node: u32,
     pub left: u32,
@@ -33,7 +33,7 @@ pub struct Got {
     pub refused: u32,
 }
 
-#[derive(Drop)]
+#[derive(Clone, Copy)]
 pub enum Occurs {
     Spent,
     Yes(u32),

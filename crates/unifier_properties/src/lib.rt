@@ -1,4 +1,6 @@
 // resolve_property_type
+#![tactic(auto)]
+
 ghost use Rattle.std.specs.Prelude.{◌≡◌};
 ghost use Rattle.image.specs.Image.{properties_from};
 ghost use Rattle.unifier_definition.specs.Property.{entry, star, star_bytes, string};
@@ -11,7 +13,7 @@ use names::{is_hook_name, same_bytes};
 use unifier_nodes::node::{Node, node_at};
 
 // A property's name: a name of the image, an array position, a number, or a computed key.
-#[derive(Drop)]
+#[derive(Clone, Copy)]
 pub enum Key {
     String(u32),
     Position(u32),
@@ -20,14 +22,14 @@ pub enum Key {
 }
 
 // The type number of an entry among a shape's properties.
-#[derive(Drop)]
+#[derive(Clone, Copy)]
 pub enum Entry {
     Is(u32),
     Missing,
 }
 
 // The type number that a lookup gives, by the rule that gave it.
-#[derive(Drop)]
+#[derive(Clone, Copy)]
 pub enum Lookup {
     Exact(u32),
     Star(u32),

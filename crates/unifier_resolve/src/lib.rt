@@ -1,4 +1,6 @@
 // get, occurs_check and try_resolve_type.
+#![tactic(auto)]
+
 ghost use Rattle.std.specs.Prelude.{◌≡◌, ◌+◌, ◌≤◌, ◌<◌, length};
 ghost use Rattle.unifier_definition.specs.Resolve.{try_resolve_type, resolve_var};
 ghost use Rattle.unifier_nodes.specs.Work.{Room};
