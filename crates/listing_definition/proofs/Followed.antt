@@ -25,7 +25,7 @@ inside_leads : (bs : List Binding) (x y : ℕ) → Memᴰ y (inside bs x) → Le
 unfolding inside
 inside_leads bs x y m =
     by_option (lookup bs x)
-    (λ e. absurd (Memᴰ.not_nil (rw (e, inside) at m)))
+    (λ e. absurd (Memᴰ.not-nil (rw (e, inside) at m)))
     (λ t e. leads_now e (record { among = rw (e, inside) at m }))
 
 mentioned_inside : (bs : List Binding) (x y : ℕ) (t : Ty) → lookup bs x ≡ some t → Mentions t y → Memᴰ y (inside bs x)
@@ -107,7 +107,7 @@ follow_ends (suc n) bs slot (x ∷ xs) listed l f =
 
 ended : {x : ℕ} {xs : List ℕ} → Memᴰ x xs ⊎ Memᴰ x [] → Memᴰ x xs
 ended (inl k) = k
-ended (inr k) = absurd (Memᴰ.not_nil k)
+ended (inr k) = absurd (Memᴰ.not-nil k)
 
 -- the slot's own variable is listed then
 pub followed_first : {bs : List Binding} {slot : ℕ} {xs : List ℕ} → Followed bs slot [] xs → Memᴰ slot xs

@@ -19,9 +19,9 @@ first : (bs : List Binding) (slot : ℕ) → Followed bs slot (slot ∷ []) []
 first bs slot =
     record {
       once = once_none;
-      listed_led = λ x m. absurd (Memᴰ.not_nil m);
-      pending_led = λ x m. elim (Memᴰ.cases_cons m) [ inl e ↦ inl e | inr n ↦ absurd (Memᴰ.not_nil n) ];
-      closed = λ x y m n. absurd (Memᴰ.not_nil m);
+      listed_led = λ x m. absurd (Memᴰ.not-nil m);
+      pending_led = λ x m. elim (Memᴰ.cases_cons m) [ inl e ↦ inl e | inr n ↦ absurd (Memᴰ.not-nil n) ];
+      closed = λ x y m n. absurd (Memᴰ.not-nil m);
       start = inr (Memᴰ.head refl);
     }
 

@@ -32,7 +32,7 @@ of_reversed x (y ∷ xs) ys m = go (of_reversed x xs (y ∷ ys) m)
     go (inr n) = behind (Memᴰ.cases_cons n)
 
 in_reversed : (x : ℕ) (xs ys : List ℕ) → Memᴰ x xs ⊎ Memᴰ x ys → Memᴰ x (reverse_aux xs ys)
-in_reversed x [] ys (inl m) = absurd (Memᴰ.not_nil m)
+in_reversed x [] ys (inl m) = absurd (Memᴰ.not-nil m)
 in_reversed x [] ys (inr m) = m
 in_reversed x (y ∷ xs) ys (inl m) =
     elim (Memᴰ.cases_cons m) [ inl e ↦ in_reversed x xs (y ∷ ys) (inr (Memᴰ.head e)) | inr n ↦ in_reversed x xs (y ∷ ys) (inl n) ]
@@ -40,7 +40,7 @@ in_reversed x (y ∷ xs) ys (inr m) = in_reversed x xs (y ∷ ys) (inr (Memᴰ.t
 
 -- a list reversed has what it had
 pub member_of_reverse : (x : ℕ) (xs : List ℕ) → Memᴰ x (reverse xs) → Memᴰ x xs
-member_of_reverse x xs m = elim (of_reversed x xs [] m) [ inl n ↦ n | inr n ↦ absurd (Memᴰ.not_nil n) ]
+member_of_reverse x xs m = elim (of_reversed x xs [] m) [ inl n ↦ n | inr n ↦ absurd (Memᴰ.not-nil n) ]
 
 pub member_in_reverse : (x : ℕ) (xs : List ℕ) → Memᴰ x xs → Memᴰ x (reverse xs)
 member_in_reverse x xs m = in_reversed x xs [] (inl m)
@@ -54,4 +54,4 @@ once_reversed (x ∷ xs) ys (once_more out o) p apart = once_reversed xs (x ∷ 
 
 -- and nothing twice, if it had nothing twice
 pub once_reverse : (xs : List ℕ) → Once xs → Once (reverse xs)
-once_reverse xs o = once_reversed xs [] o once_none (λ x m n. Memᴰ.not_nil n)
+once_reverse xs o = once_reversed xs [] o once_none (λ x m n. Memᴰ.not-nil n)

@@ -50,7 +50,7 @@ module _ (has : Binding → ℕ) where
   -- and without what its row has
   pub taken : (x : ℕ) (t : Ty) (listed : List ℕ) (bs : List Binding) → member x listed ≡ false → Memᴰ (row x t) bs → to_come has (x ∷ listed) bs + has (row x t) ≤ to_come has listed bs
   unfolding to_come member
-  taken x t listed [] n m = absurd (Memᴰ.not_nil m)
+  taken x t listed [] n m = absurd (Memᴰ.not-nil m)
   taken x t listed (b ∷ bs) n m = go (Memᴰ.cases_cons m) (λ k. taken x t listed bs n k)
     where
       go : (row x t ≡ b) ⊎ Memᴰ (row x t) bs → (Memᴰ (row x t) bs → to_come has (x ∷ listed) bs + has (row x t) ≤ to_come has listed bs)

@@ -70,8 +70,8 @@ module _ {w₀ : List ℕ} {lay : Layout} {slot : ℕ} (A : ListsAsked w₀ lay 
         stands = A.stands;
         walking = record {
           stack = stacked_none refl;
-          low = λ x m. absurd (Memᴰ.not_nil m);
-          ordered = record { order = stacked_none {end = order_at lay + 0} (omega arith); placed = λ x m. absurd (Memᴰ.not_nil m); marked = λ x m. absurd (Memᴰ.not_nil m); low = λ x m. absurd (Memᴰ.not_nil m) };
+          low = λ x m. absurd (Memᴰ.not-nil m);
+          ordered = record { order = stacked_none {end = order_at lay + 0} (omega arith); placed = λ x m. absurd (Memᴰ.not-nil m); marked = λ x m. absurd (Memᴰ.not-nil m); low = λ x m. absurd (Memᴰ.not-nil m) };
           room = omega (arith, unlisted_short A.bs, A.short);
         };
         low = A.low;

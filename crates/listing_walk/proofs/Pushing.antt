@@ -24,16 +24,16 @@ mutual
   unfolding variables
 
   pub rep_low_variables : {w : List ℕ} {lo top n : ℕ} {t : Ty} → Rep w lo top n t → (y : ℕ) → Memᴰ y (variables t) → y < lo
-  rep_low_variables (rep_var h e) y m = elim (Memᴰ.cases_cons m) [ inl q ↦ omega arith | inr k ↦ absurd (Memᴰ.not_nil k) ]
-  rep_low_variables (rep_leaf o h (leaf_prim k)) y m = absurd (Memᴰ.not_nil m)
-  rep_low_variables (rep_leaf o h (leaf_poly k)) y m = absurd (Memᴰ.not_nil m)
-  rep_low_variables (rep_leaf o h (leaf_method k)) y m = absurd (Memᴰ.not_nil m)
-  rep_low_variables (rep_leaf o h (leaf_object k e)) y m = absurd (Memᴰ.not_nil m)
+  rep_low_variables (rep_var h e) y m = elim (Memᴰ.cases_cons m) [ inl q ↦ omega arith | inr k ↦ absurd (Memᴰ.not-nil k) ]
+  rep_low_variables (rep_leaf o h (leaf_prim k)) y m = absurd (Memᴰ.not-nil m)
+  rep_low_variables (rep_leaf o h (leaf_poly k)) y m = absurd (Memᴰ.not-nil m)
+  rep_low_variables (rep_leaf o h (leaf_method k)) y m = absurd (Memᴰ.not-nil m)
+  rep_low_variables (rep_leaf o h (leaf_object k e)) y m = absurd (Memᴰ.not-nil m)
   rep_low_variables (rep_func c o h k a b l r) y m = rep_low_variables r y m
   rep_low_variables (rep_phi o h k a b r) y m = reps_low_variables r y m
 
   reps_low_variables : {w : List ℕ} {lo top last lim a : ℕ} {ts : Tys} → Reps w lo top last lim a ts → (y : ℕ) → Memᴰ y (variables_all ts) → y < lo
-  reps_low_variables reps_nil y m = absurd (Memᴰ.not_nil m)
+  reps_low_variables reps_nil y m = absurd (Memᴰ.not-nil m)
   reps_low_variables (reps_cons {t = t} o h e l r rs) y m =
       elim (Memᴰ.append_cases (variables t) m) [ inl k ↦ rep_low_variables r y k | inr k ↦ reps_low_variables rs y k ]
 

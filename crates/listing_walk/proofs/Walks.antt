@@ -115,7 +115,7 @@ module _ {w : List ℕ} {lay : Layout} {n x end : ℕ} (a : ListAsked w lay n x 
   inside_low y m = go (lookup a.bs x) binding refl
     where
       go : (o : Option Ty) → Bound w lay.lo a.stands.top (at w x) o → lookup a.bs x ≡ o → y < lay.lo
-      go none b e = absurd (Memᴰ.not_nil (subst (Memᴰ y) (inside_none a.bs x e) m))
+      go none b e = absurd (Memᴰ.not-nil (subst (Memᴰ y) (inside_none a.bs x e) m))
       go (some t) (bound q r) e = rep_low_variables r y (subst (Memᴰ y) (inside_some a.bs x t e) m)
 
   module _ {w' : List ℕ} {r : ℕ} (p : Pushed marked w' (inside a.bs x) end r) where

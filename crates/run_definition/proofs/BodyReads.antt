@@ -41,7 +41,7 @@ passing_got test (v ∷ ws) {w} e =
 -- what holds of all that a reader gives holds of each of many
 pub many_each : {A : Type 0} (P : A → Type 0) (r : List ℕ → Read A) → ((ws : List ℕ) (a : A) (rest : List ℕ) → r ws ≡ got a rest → P a) → (n : ℕ) (ws : List ℕ) {xs : List A} {rest : List ℕ} → many r n ws ≡ got xs rest → (x : A) → Memᴰ x xs → P x
 unfolding many
-many_each {A} P r h zero ws {xs} e x m = let q : xs ≡ [] = cc in absurd (Memᴰ.not_nil (subst (Memᴰ x) q m))
+many_each {A} P r h zero ws {xs} e x m = let q : xs ≡ [] = cc in absurd (Memᴰ.not-nil (subst (Memᴰ x) q m))
 many_each {A} P r h (suc n) ws {xs} {rest} e x m =
     let (y, ws₁, ys, p, q, s) = many_first r n ws xs rest e in
     elim (Memᴰ.cases_cons (subst (Memᴰ x) s m)) [

@@ -40,7 +40,7 @@ equation_weaken l (t ≐_property a) (property_only p q) = property_only (only_w
 module _ {n : ℕ} where
   -- no equation
   pub below_none : EquationsBelow n []
-  below_none e m = absurd (Memᴰ.not_nil m)
+  below_none e m = absurd (Memᴰ.not-nil m)
 
   -- one more equation
   pub below_more : {e : Equation} {es : List Equation} → EquationOnly (Below n) e → EquationsBelow n es → EquationsBelow n (e ∷ es)

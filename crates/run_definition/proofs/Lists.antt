@@ -40,7 +40,7 @@ module _ {A : Type 0} where
 -- what holds of all that each element gives
 pub of_flatMap : {A B : Type 0} (P : B → Type 0) (f : A → List B) (xs : List A) → ((x : A) → Memᴰ x xs → (b : B) → Memᴰ b (f x) → P b) → (b : B) → Memᴰ b (flat_map f xs) → P b
 unfolding flat_map
-of_flatMap P f [] h b m = absurd (Memᴰ.not_nil m)
+of_flatMap P f [] h b m = absurd (Memᴰ.not-nil m)
 of_flatMap P f (x ∷ xs) h b m =
     elim (Memᴰ.append_cases (f x) m) [
       | inl n ↦ h x (Memᴰ.head refl) b n
@@ -57,7 +57,7 @@ pub record From {A B : Type 0} (f : ℕ → A → List B) (xs : List A) (b : B) 
 -- all that numbered elements give comes from one of them
 pub of_concat_map : {A B : Type 0} (f : ℕ → A → List B) (k : ℕ) (xs : List A) {b : B} → Memᴰ b (concat_map_from f k xs) → From f xs b
 unfolding concat_map_from
-of_concat_map f k [] m = absurd (Memᴰ.not_nil m)
+of_concat_map f k [] m = absurd (Memᴰ.not-nil m)
 of_concat_map {A} {B} f k (x ∷ xs) {b} m = step (λ n. of_concat_map f (suc k) xs n) (Memᴰ.append_cases (f k x) m)
   where
     step : (Memᴰ b (concat_map_from f (suc k) xs) → From f xs b) → Memᴰ b (f k x) ⊎ Memᴰ b (concat_map_from f (suc k) xs) → From f (x ∷ xs) b

@@ -45,7 +45,7 @@ instruction_names {b} {i} {g} o e = in_blocks b.blocks o.block g o.block_of (in_
 
 each_above : (f : ℕ) (gs named : List ℕ) {more : List ℕ} → name_each f gs named ≡ some more → (g : ℕ) → Memᴰ g gs → f < g
 unfolding name_each
-each_above f [] named e g m = absurd (Memᴰ.not_nil m)
+each_above f [] named e g m = absurd (Memᴰ.not-nil m)
 each_above f (h ∷ gs) named {more} e g m =
     by_bool (ltb f h && not (member h named))
     (λ t. elim (Memᴰ.cases_cons m) [
@@ -70,4 +70,4 @@ nested_above f (b ∷ bs) named e (suc k) d l g m = let (more, q, s) = well_firs
 -- a number outside the table has an empty body
 pub no_instruction : {i : Instruction} → InstructionOf no_function i → ⊥
 unfolding no_function
-no_instruction o = Memᴰ.not_nil o.block_of
+no_instruction o = Memᴰ.not-nil o.block_of

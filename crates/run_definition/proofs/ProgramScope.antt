@@ -91,7 +91,7 @@ module _ (img bytes : List ℕ) {budget : ℕ} (c : CheckedImage img bytes budge
 
   properties_only : (at n : ℕ) → at + n ≤ count Properties img → (q : Property) → Memᴰ q (properties_from img bytes at n) → Only (ImageSlot (program img bytes)) q.type
   unfolding properties_from property_at
-  properties_only at zero l q m = absurd (Memᴰ.not_nil m)
+  properties_only at zero l q m = absurd (Memᴰ.not-nil m)
   properties_only at (suc n) l q m =
       elim (Memᴰ.cases_cons m) [
         | inl e ↦ subst (λ (y : Property). Only (ImageSlot (program img bytes)) y.type) (sym e) (image_type (cell Properties img at 1) (property_type img (length bytes) c.references at (omega arith)))

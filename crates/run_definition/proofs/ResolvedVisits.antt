@@ -91,7 +91,7 @@ module _ {σ : Log} (v : Visit) {vs : List Visit} {s s₁ s' : ℕ} (types : Lis
 pub resolve_identifiers_law : (σ : Log) (s : ℕ) (types : List Ty) (vs : List Visit) → Always (Applied σ vs s types) (Halted σ) (resolve_identifiers σ s types vs)
 unfolding resolve_identifiers
 resolve_identifiers_law σ s types [] =
-    alike_done (record { long = refl; settled = λ j l r. refl; kept = λ j h. refl; seen = λ v m l. absurd (Memᴰ.not_nil m); falls = omega arith; sized = omega arith })
+    alike_done (record { long = refl; settled = λ j l r. refl; kept = λ j h. refl; seen = λ v m l. absurd (Memᴰ.not-nil m); falls = omega arith; sized = omega arith })
 resolve_identifiers_law σ s types (v ∷ vs) =
     alike_then (get_law σ s (at types v.slot)) (λ t s₁ g.
     alike_map (resolve_identifiers_law σ s₁ (set types v.slot t) vs) (λ after s₂ a. applied_more v types g a))

@@ -18,7 +18,7 @@ use Rattle.run_definition.proofs.RowSizes.{rows_length, rows_sized}
 use Rattle.run_definition.proofs.VisitComplete.{visited_seen}
 
 some_in : {A : Type 0} {x : A} (xs : List A) → Memᴰ x xs → 1 ≤ length xs
-some_in [] m = absurd (Memᴰ.not_nil m)
+some_in [] m = absurd (Memᴰ.not-nil m)
 some_in (y ∷ xs) m = omega arith
 
 -- the returns of the outermost function are visited

@@ -32,14 +32,14 @@ module _ (p : Program) where
     key_where (places_then c tags) x i k n it e o v m =
         by_bool (has_tag COMPUTED_KEY it)
         (λ t. at_visit x i k it.key v (Memᴰ.eq_of_singleton (rw (t, key_visits) at m)) (at_key o e t refl))
-        (λ t. absurd (Memᴰ.not_nil (rw (t, key_visits) at m)))
-    key_where pattern x i k n it e o v m = absurd (Memᴰ.not_nil m)
+        (λ t. absurd (Memᴰ.not-nil (rw (t, key_visits) at m)))
+    key_where pattern x i k n it e o v m = absurd (Memᴰ.not-nil m)
 
     item_where : (x i k : ℕ) (n : Instruction) (it : Item) → ItemOf b n it → (v : Visit) → Memᴰ v (item_visits p n.form.items f x i k it) → Where b inner v
     unfolding item_visits
     item_where x i k n it o v m =
         by_bool (has_tag HOLE it)
-        (λ t. absurd (Memᴰ.not_nil (rw (t, item_visits) at m)))
+        (λ t. absurd (Memᴰ.not-nil (rw (t, item_visits) at m)))
         (λ t. elim (Memᴰ.cases_cons (rw (t, item_visits) at m)) [
           | inl e ↦ at_visit x i k it.id v e (at_item o t refl)
           | inr m₁ ↦ key_where n.form.items x i k n it refl o v m₁
@@ -47,7 +47,7 @@ module _ (p : Program) where
 
     nested_where : (x i : ℕ) (n : Instruction) (o : Option ℕ) → nested n ≡ o → InstructionOf b n → (v : Visit) → Memᴰ v (nested_visits p inner f x i o) → Where b inner v
     unfolding nested_visits
-    nested_where x i n none e io v m = absurd (Memᴰ.not_nil m)
+    nested_where x i n none e io v m = absurd (Memᴰ.not-nil m)
     nested_where x i n (some g) e io v m =
         elim (Memᴰ.append_cases (map (visit p f x i NONE) (function_of p g).context) m) [
           | inl m₁ ↦ let r = Memᴰ.of_map (visit p f x i NONE) (function_of p g).context m₁ in at_visit x i NONE r.0 v (sym r.2) (at_context io e r.1)
@@ -85,7 +85,7 @@ module _ (p : Program) where
   -- to any depth
   depth_visited : (d f : ℕ) → Reached p f → (v : Visit) → Memᴰ v (to_depth [] (λ inner g. function_visits p inner g (function_of p g)) d f) → Visited p v.slot
   unfolding to_depth
-  depth_visited zero f r v m = absurd (Memᴰ.not_nil m)
+  depth_visited zero f r v m = absurd (Memᴰ.not-nil m)
   depth_visited (suc d) f r v m = go (function_where (function_of p f) (to_depth [] (λ inner g. function_visits p inner g (function_of p g)) d) f v m) (λ g q n. depth_visited d g q v n)
     where
       go : Where (function_of p f) (to_depth [] (λ inner g. function_visits p inner g (function_of p g)) d) v → ((g : ℕ) → Reached p g → Memᴰ v (to_depth [] (λ inner h. function_visits p inner h (function_of p h)) d g) → Visited p v.slot) → Visited p v.slot

@@ -59,11 +59,11 @@ pub data Closed : Ty → Type 0 where
 -- none of these mentions a variable
 pub of_closed : {t : Ty} {x : ℕ} → Closed t → Mentions t x → ⊥
 unfolding variables
-of_closed closed_prim m = Memᴰ.not_nil m.among
-of_closed closed_poly m = Memᴰ.not_nil m.among
-of_closed closed_method m = Memᴰ.not_nil m.among
-of_closed closed_object m = Memᴰ.not_nil m.among
-of_closed closed_nil m = Memᴰ.not_nil m.among
+of_closed closed_prim m = Memᴰ.not-nil m.among
+of_closed closed_poly m = Memᴰ.not-nil m.among
+of_closed closed_method m = Memᴰ.not-nil m.among
+of_closed closed_object m = Memᴰ.not-nil m.among
+of_closed closed_nil m = Memᴰ.not-nil m.among
 
 -- every variable that a type mentions is one of Q
 pub record Only (Q : ℕ → Type 0) (t : Ty) : Type 0 where
@@ -108,7 +108,7 @@ module _ {Q : ℕ → Type 0} where
 
 pub not_member : (x : ℕ) (xs : List ℕ) → member x xs ≡ false → Memᴰ x xs → ⊥
 unfolding member
-not_member x [] e m = Memᴰ.not_nil m
+not_member x [] e m = Memᴰ.not-nil m
 not_member x (y ∷ xs) e m =
     by_bool (eqb x y)
     (λ f. true≢false (rw (f, member) at e))

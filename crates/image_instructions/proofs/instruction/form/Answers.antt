@@ -1,0 +1,7 @@
+use Rattle.image_instructions.proofs.Coded.{codes, coded}
+use borrow.Author.Rules.{rules}
+use Rattle.image_instructions.proofs.instruction.form.Goals as goal
+
+pub returns : goal.returns
+unfolding codes
+returns c = coded c.args.kind c.requires

@@ -1,0 +1,20 @@
+use Prim.Native.Nat.{◌-◌}
+use Rattle.image.specs.Body.{item}
+use Rattle.image_instructions.specs.Coded.{tags_of}
+use Rattle.image_instructions.specs.Cursor.{broken, ended}
+use Rattle.image_instructions.proofs.Cursor.{ends_broken, ends_at, Reading, reading_start, reading_turn, reading_fails, reading_end}
+use borrow.Author.Rules.{rules}
+use native.Mathlib.Omega.{arith}
+use Rattle.image_instructions.proofs.instruction.items.Goals as goal
+
+pub loop-k-init : goal.loop-k-init
+loop-k-init c = reading_start _ _ _ _ _ (omega arith)
+
+pub returns-in_default : goal.returns-in_default
+returns-in_default c = broken (reading_fails c.loop-k.invariant (omega arith) (ends_broken c.in_default.is c.item.ensures))
+
+pub loop-k-preserved : goal.loop-k-preserved
+loop-k-preserved c = reading_turn c.loop-k.invariant (omega arith) (ends_at c.in-To.is c.item.ensures)
+
+pub returns : goal.returns
+returns c = ended (reading_end c.loop-k.invariant (omega arith))

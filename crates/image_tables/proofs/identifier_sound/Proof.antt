@@ -1,9 +1,0 @@
-use borrow.Author.Rules.{rules}
-use Rattle.image_tables.proofs.identifier_sound.Statement.{statement}
-use Rattle.image_tables.proofs.identifier_sound.Tie as tie
-
-returns : tie.Need-returns
-returns c = cc
-
-pub identifier-sound-spec : {M : Type 1} → statement M
-identifier-sound-spec = tie.close (tie.spec (λ c κs. search rules) (λ c κs. search rules) (λ c κs. search rules) returns)

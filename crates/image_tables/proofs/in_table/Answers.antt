@@ -1,0 +1,7 @@
+use borrow.Author.Rules.{rules}
+use Rattle.image.specs.Check.{in_table}
+use Rattle.image_tables.proofs.in_table.Goals as goal
+
+pub returns : goal.returns
+unfolding in_table
+returns c = rw c.count.ensures

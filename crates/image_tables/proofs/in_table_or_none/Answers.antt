@@ -1,0 +1,12 @@
+use borrow.Author.Rules.{rules}
+use Rattle.image.specs.Check.{in_table_or_none}
+use borrow.Author.Tests.{eq-eqb, ne_eqb}
+use Rattle.image_tables.proofs.in_table_or_none.Goals as goal
+
+pub returns-then-n-eq-NONE : goal.returns-then-n-eq-NONE
+unfolding in_table_or_none
+returns-then-n-eq-NONE c = rw (eq-eqb _ _ c.if-n-eq-NONE.true)
+
+pub returns : goal.returns
+unfolding in_table_or_none
+returns c = rw (ne_eqb _ _ c.if-n-eq-NONE.false, c.count.ensures)

@@ -1,0 +1,8 @@
+use borrow.Author.Rules.{rules}
+use Rattle.image.specs.Check.{inside}
+use mathlib.Core.Path.{refl}
+use Rattle.image_tables.proofs.inside.Goals as goal
+
+pub returns : goal.returns
+unfolding inside
+returns c = refl

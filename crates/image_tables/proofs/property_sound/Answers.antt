@@ -1,0 +1,5 @@
+use borrow.Author.Rules.{rules}
+use Rattle.image_tables.proofs.property_sound.Goals as goal
+
+pub returns : goal.returns
+returns c = cc
