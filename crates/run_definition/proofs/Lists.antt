@@ -72,5 +72,6 @@ pub record Part {A B : Type 0} (f : ℕ → A → List B) (x : A) (whole : List 
 -- all that numbered elements give has what each of them gives
 pub in_concat_map : {A B : Type 0} (f : ℕ → A → List B) (k : ℕ) (xs : List A) (x : A) → Memᴰ x xs → Part f x (concat_map_from f k xs)
 unfolding concat_map_from
+in_concat_map f k [] x m = elim m [ ]
 in_concat_map f k (y ∷ ys) x (Memᴰ.head e) = record { position = k; within = λ b m. Memᴰ.append_left _ (subst (λ z. Memᴰ b (f k z)) e m) }
 in_concat_map f k (y ∷ ys) x (Memᴰ.tail q) = let r = in_concat_map f (suc k) ys x q in record { position = r.position; within = λ b m. Memᴰ.append_right (f k y) (r.within b m) }

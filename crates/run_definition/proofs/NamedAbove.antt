@@ -26,6 +26,7 @@ pub record NamedAbove (p : Program) : Type 0 where
 
 in_instructions : (is : List Instruction) (i : Instruction) (g : ℕ) → Memᴰ i is → nested i ≡ some g → Memᴰ g (named_by_instructions is)
 unfolding named_by_instructions
+in_instructions [] i g m q = elim m [ ]
 in_instructions (j ∷ is) i g (Memᴰ.head e) q =
     let s : nested j ≡ some g = subst (λ (k : Instruction). nested k ≡ some g) e q in
     rw (s, named_by_instructions) (Memᴰ.head refl)
@@ -36,6 +37,7 @@ in_instructions (j ∷ is) i g (Memᴰ.tail m) q =
 
 in_blocks : (bs : List Block) (b : Block) (g : ℕ) → Memᴰ b bs → Memᴰ g (named_by_instructions b.instructions) → Memᴰ g (named_by_blocks bs)
 unfolding named_by_blocks
+in_blocks [] b g n m = elim n [ ]
 in_blocks (c ∷ bs) b g (Memᴰ.head e) m = Memᴰ.append_left _ (subst (λ (x : Block). Memᴰ g (named_by_instructions x.instructions)) e m)
 in_blocks (c ∷ bs) b g (Memᴰ.tail n) m = Memᴰ.append_right (named_by_instructions c.instructions) (in_blocks bs b g n m)
 

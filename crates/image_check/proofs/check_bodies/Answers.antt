@@ -1,0 +1,12 @@
+use mathlib.Core.Path.{sym, ◌∙◌}
+use borrow.Author.Rules.{rules}
+use borrow.Author.Tests.{not-true, not-false}
+use Rattle.image_check.proofs.Answers.{shared, unshared}
+use Rattle.image_check.proofs.check_bodies.Goals as goal
+
+pub returns-then-not-bodies_apart : goal.returns-then-not-bodies_apart
+returns-then-not-bodies_apart c = shared _ (sym c.bodies_apart.ensures ∙ c.if-not-bodies_apart.true)
+
+pub returns : goal.returns
+returns c =
+    c.bodies_number.ensures ∙ c.bodies_read-read.ensures ∙ unshared _ (sym c.bodies_apart.ensures ∙ c.if-not-bodies_apart.false)

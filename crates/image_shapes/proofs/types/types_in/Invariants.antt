@@ -1,0 +1,18 @@
+use Prim.Native.Nat.{◌-◌}
+use native.Mathlib.Omega.{arith}
+use mathlib.Core.Path.{◌≡◌, refl, sym}
+use lib.ListN.{length, length-set}
+use borrow.Author.Rules.{rules}
+use Rattle.image.specs.declared.Table.TheVariants.{Types}
+use Rattle.image.specs.Image.{count}
+use Rattle.image.specs.Check.{each, type_sound, types_sound}
+use Rattle.image_shapes.specs.Sizes.{Sized}
+use Rattle.image.proofs.Passed.{Passed, passed_start, passed_turn, passed_fails, passed_end}
+use Rattle.image_shapes.proofs.Sizes.{sized_start, type_broken, type_kept, words_small, sized_turn}
+use Rattle.image_shapes.proofs.types.types_in.Given as goal
+
+abbrev pub invariant-loop-n : goal.invariant-loop-n
+invariant-loop-n l = Passed (type_sound l.img) (count Types l.img) l.n × Sized l.img l.sizes l.n × (length l.sizes ≡ length l.initial.sizes)
+
+abbrev pub decreases-loop-n : goal.decreases-loop-n
+decreases-loop-n l = l.all - l.n
