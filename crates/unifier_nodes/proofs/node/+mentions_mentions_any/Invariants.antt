@@ -1,0 +1,16 @@
+use native.Mathlib.Omega.{arith}
+use Prim.Native.Nat.{ℕ, ◌<◌, ◌+◌, ◌*◌, ◌-◌}
+use Rattle.unifier_nodes.proofs.Mentioning.{tells_var, tells_plain, tells_func, tells_phi, stands_func, stands_phi, Seeking, seeking_none, seeking_next, seeking_found, seeking_more, seeking_end}
+use Rattle.unifier_nodes.proofs.node.+mentions_mentions_any.Given as goal
+
+abbrev pub decreases-mentions : goal.decreases-mentions
+decreases-mentions l = 2 * l.n + 1
+
+abbrev pub decreases-mentions_any : goal.decreases-mentions_any
+decreases-mentions_any l = 2 * l.last
+
+abbrev pub invariant-mentions_any-loop-k : goal.invariant-mentions_any-loop-k
+invariant-mentions_any-loop-k l = Seeking l.w l.lo l.last l.at l.count l.v.0 l.k
+
+abbrev pub decreases-mentions_any-loop-k : goal.decreases-mentions_any-loop-k
+decreases-mentions_any-loop-k l = l.count - l.k
