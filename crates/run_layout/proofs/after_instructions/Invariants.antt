@@ -1,0 +1,14 @@
+use borrow.Author.Rules.{rules}
+use native.Mathlib.Omega.{arith}
+use Prim.Native.Nat.{◌-◌}
+use mathlib.Core.Path.{refl}
+use Rattle.run_definition.specs.Position.{after_instruction, after_instructions}
+use Rattle.run_layout.specs.Laying.{SomeInstructions}
+use Rattle.run_layout.proofs.BodyWalks.{Walk, walk_start, walk_turn, walk_end, instruction_parts, instruction_inside}
+use Rattle.run_layout.proofs.after_instructions.Given as goal
+
+abbrev pub invariant-loop : goal.invariant-loop
+invariant-loop l = Walk (SomeInstructions l.img) (after_instructions l.img) l.from l.n l.at l.counter
+
+abbrev pub decreases-loop : goal.decreases-loop
+decreases-loop l = l.n - l.counter

@@ -1,0 +1,42 @@
+use borrow.Author.Rules.{rules}
+use native.Mathlib.Omega.{arith}
+use Prim.Native.Nat.{◌-◌, ◌≤◌}
+use mathlib.Core.Path.{ap, ◌∙◌}
+use mathlib.Core.Logic.{⊎_elim}
+use Rattle.unifier_nodes.specs.Walks.{type_node}
+use Rattle.run_layout.specs.Laying.{LaysWords, ListWord}
+use Rattle.run_layout.proofs.LayingLaws.{words_none, words_store, words_skip, words_all, placed_in}
+use Rattle.run_layout.proofs.lay_lists.Goals as goal
+
+pub loop-k-init : goal.loop-k-init
+loop-k-init c = (omega arith, words_none)
+
+pub cell-t-requires : goal.cell-t-requires
+cell-t-requires c = record { laid = c.requires.laid; row = omega arith; column = omega arith }
+
+pub node_of_type-requires : goal.node_of_type-requires
+node_of_type-requires c = placed_in c.requires (omega arith)
+
+pub overflow_add-w : goal.overflow_add-w
+overflow_add-w c = omega (arith, c.requires)
+
+pub offset_bounds-w-lists : goal.offset_bounds-w-lists
+offset_bounds-w-lists c = omega (arith, c.requires)
+
+pub bounds-w-lists : goal.bounds-w-lists
+bounds-w-lists c = omega (arith, c.requires, c.loop-k.invariant.1.kept.len)
+
+pub loop-k-preserved : goal.loop-k-preserved
+loop-k-preserved c = (
+  omega arith,
+  ⊎_elim
+      (λ p. rw p.2 (words_store c.loop-k.invariant.1 _ (omega (arith, c.requires, c.loop-k.invariant.1.kept.len)) (λ l. p.1.ensures ∙ ap (type_node _ _) c.cell-t.ensures)))
+      (λ p. rw p.1 (words_skip c.loop-k.invariant.1 (λ l. absurd (omega arith))))
+      c.if-t-types.branch,
+)
+
+pub shape_of-w : goal.shape_of-w
+shape_of-w c = c.loop-k.invariant.1.kept.len
+
+pub returns : goal.returns
+returns c = words_all c.loop-k.invariant.1 (omega arith)

@@ -1,0 +1,14 @@
+use borrow.Author.Rules.{rules}
+use native.Mathlib.Omega.{arith}
+use Prim.Native.Nat.{◌-◌, ◌≤◌}
+use mathlib.Core.Logic.{⊎_elim}
+use lib.ListN.{length}
+use Rattle.run_layout.specs.Laying.{LaysWords, PlaceWord}
+use Rattle.run_layout.proofs.LayingLaws.{words_none, words_store, words_skip, words_all}
+use Rattle.run_layout.proofs.lay_places.Given as goal
+
+abbrev pub invariant-loop-k : goal.invariant-loop-k
+invariant-loop-k l = (l.k ≤ length l.img) × LaysWords (PlaceWord l.img) l.initial.w l.w l.places l.k
+
+abbrev pub decreases-loop-k : goal.decreases-loop-k
+decreases-loop-k l = l.k-end - l.k

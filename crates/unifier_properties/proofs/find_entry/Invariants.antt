@@ -1,0 +1,17 @@
+-- The loop's invariant: the entry is the one among the rows that are left.
+use Prim.Native.Nat.{◌+◌, ◌-◌, ◌≤◌}
+use mathlib.Core.Path.{◌≡◌, ◌∙◌}
+use native.Mathlib.Omega.{arith}
+use native.Mathlib.Nat.{add-sub_cancel_left}
+use borrow.Author.Rules.{rules}
+use Rattle.image.specs.Image.{properties_from, property_at}
+use Rattle.unifier_definition.specs.Property.{entry}
+use Rattle.unifier_properties.specs.Lookup.{entry_number}
+use Rattle.unifier_properties.proofs.Lookups.{rows_few, row_inside, row_name, entry_found, entry_later, entry_none}
+use Rattle.unifier_properties.proofs.find_entry.Given as goal
+
+abbrev pub invariant-loop-p : goal.invariant-loop-p
+invariant-loop-p l = (l.p ≤ l.first + l.n) × (entry (properties_from l.img l.bytes l.p (l.first + l.n - l.p)) l.text ≡ entry (properties_from l.img l.bytes l.first l.n) l.text)
+
+abbrev pub decreases-loop-p : goal.decreases-loop-p
+decreases-loop-p l = l.first + l.n - l.p

@@ -1,0 +1,18 @@
+use borrow.Author.Rules.{rules}
+use native.Mathlib.Omega.{arith}
+use Prim.Native.Nat.{ℕ, ◌<◌, ◌+◌, ◌*◌, ◌-◌}
+use Rattle.unifier_nodes.proofs.Getting.{read_as, known_stands, known_slot, known_bound, known_func, known_phi}
+use Rattle.unifier_resolve.proofs.Occurring.{readable_known, known_readable, known_readable_all, checks_none, checks_plain, checks_same, checks_free, checks_bound, checks_func, checks_phi, checks_as, Trying, trying_none, trying_ends, trying_more, trying_readable, trying_word, trying_done}
+use Rattle.unifier_resolve.proofs.+occurs_any_occurs_check.Given as goal
+
+abbrev pub decreases-occurs_any : goal.decreases-occurs_any
+decreases-occurs_any l = 2 * l.left + 1
+
+abbrev pub decreases-occurs_check : goal.decreases-occurs_check
+decreases-occurs_check l = 2 * l.left
+
+abbrev pub invariant-occurs_any-loop-k : goal.invariant-occurs_any-loop-k
+invariant-occurs_any-loop-k l = Trying l.w l.lo l.left l.v.0 l.at l.count l.l l.k
+
+abbrev pub decreases-occurs_any-loop-k : goal.decreases-occurs_any-loop-k
+decreases-occurs_any-loop-k l = l.count - l.k
