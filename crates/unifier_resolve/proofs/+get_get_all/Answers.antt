@@ -5,45 +5,6 @@ use Rattle.unifier_nodes.proofs.Getting.{read_as, room_fits, room_charged, gives
 use Rattle.unifier_nodes.proofs.GetOperands.{Walking, walking_none, walking_refused, walking_more, walking_done, walking_room, walking_hand, walking_known, walking_word}
 use Rattle.unifier_resolve.proofs.+get_get_all.Goals as goal
 
-get-all-loop-holds : (t : ℕ) → get-all-lts.Need-loop-init (get-all-env t) (get-all-at t) get-all.Post get-all-Inv-loop get-all-μ-loop
-get-all-loop-holds t c = walking_none _ _ c.before.args.st _ _
-
-get-all-slice-read-n : (t : ℕ) → get-all-lts.Need-slice-read-n (get-all-env t) (get-all-at t) get-all.Post get-all-Inv-loop get-all-μ-loop
-get-all-slice-read-n t c =
-    let l = c.before.before in
-    let s = l.before.before in
-    omega (arith, walking_word s.args.st l.loop.invariant c.before.loop-test.true s.requires.1.1, l.loop.invariant.frame.len, room_fits s.requires.1.0)
-
-get-all-get-requires : (t : ℕ) → get-all-lts.Need-get-requires (get-all-env t) (get-all-at t) get-all.Post get-all-Inv-loop get-all-μ-loop
-get-all-get-requires t c κs =
-    let l = c.before.before.before in
-    let s = l.before.before in
-    (omega arith, (walking_room s.args.st l.loop.invariant c.before.before.loop-test.true s.requires.1.0, walking_known s.args.st l.loop.invariant c.before.before.loop-test.true s.requires.1.1))
-
-get-all-returns : (t : ℕ) → get-all-lts.Need-returns (get-all-env t) (get-all-at t) get-all.Post get-all-Inv-loop get-all-μ-loop
-get-all-returns t c =
-    let l = c.before.before.before.before.before.before.before in
-    let s = l.before.before in
-    walking_refused s.args.st l.loop.invariant c.before.before.before.before.before.before.loop-test.true c.if1.true c.before.before.before.get.ensures
-
-get-all-slice-write-w : (t : ℕ) → get-all-lts.Need-slice-write-w (get-all-env t) (get-all-at t) get-all.Post get-all-Inv-loop get-all-μ-loop
-get-all-slice-write-w t c =
-    let l = c.before.before.before.before.before.before.before in
-    let s = l.before.before in
-    walking_hand s.args.st l.loop.invariant c.before.before.before.before.before.before.loop-test.true c.if1.false s.requires.1.0 c.before.before.before.get.ensures
-
-get-all-loop-again : (t : ℕ) → get-all-lts.Need-loop-preserved (get-all-env t) (get-all-at t) get-all.Post get-all-Inv-loop get-all-μ-loop
-get-all-loop-again t c =
-    let l = c.before.before.before.before.before.before.before in
-    let s = l.before.before in
-    walking_more s.args.st l.loop.invariant c.before.before.before.before.before.before.loop-test.true c.if1.false s.requires.1.0 c.before.before.before.get.ensures
-
-get-all-returns-2 : (t : ℕ) → get-all-lts.Need-returns-2 (get-all-env t) (get-all-at t) get-all.Post get-all-Inv-loop get-all-μ-loop
-get-all-returns-2 t c =
-    let l = c.before.before in
-    let s = l.before.before in
-    rw c.finished.ensures (walking_done s.args.st l.loop.invariant c.before.loop-test.false)
-
 pub get-returns-then-left-eq0 : goal.get-returns-then-left-eq0
 get-returns-then-left-eq0 t c = rw c.spent.ensures (gives_none _ _ _ _ c.if-left-eq0.true)
 
@@ -106,3 +67,30 @@ get-returns-in-ObjectMethod t c =
 pub get-returns-in-Object : goal.get-returns-in-Object
 get-returns-in-Object t c =
     rw c.finished-in-Object.ensures (gives_plain _ c.requires.room c.if-left-eq0.false (read_as c.in-Object.is c.node_at.ensures) tt)
+
+pub get_all-loop-k-init : goal.get_all-loop-k-init
+get_all-loop-k-init t c = walking_none _ _ c.args.st _ _
+
+pub get_all-bounds-w-at : goal.get_all-bounds-w-at
+get_all-bounds-w-at t c =
+    omega (arith, walking_word c.args.st c.loop-k.invariant c.loop-k-test.true c.requires.known_all, c.loop-k.invariant.frame.len, room_fits c.requires.room)
+
+pub get_all-get-g-requires : goal.get_all-get-g-requires
+get_all-get-g-requires t c =
+    (omega arith, (walking_room c.args.st c.loop-k.invariant c.loop-k-test.true c.requires.room, walking_known c.args.st c.loop-k.invariant c.loop-k-test.true c.requires.known_all))
+
+pub get_all-returns-then-refused-ne0 : goal.get_all-returns-then-refused-ne0
+get_all-returns-then-refused-ne0 t c =
+    walking_refused c.args.st c.loop-k.invariant c.loop-k-test.true c.if-refused-ne0.true c.get-g.ensures
+
+pub get_all-bounds-w-stack : goal.get_all-bounds-w-stack
+get_all-bounds-w-stack t c =
+    walking_hand c.args.st c.loop-k.invariant c.loop-k-test.true c.if-refused-ne0.false c.requires.room c.get-g.ensures
+
+pub get_all-loop-k-preserved : goal.get_all-loop-k-preserved
+get_all-loop-k-preserved t c =
+    walking_more c.args.st c.loop-k.invariant c.loop-k-test.true c.if-refused-ne0.false c.requires.room c.get-g.ensures
+
+pub get_all-returns : goal.get_all-returns
+get_all-returns t c =
+    rw c.finished.ensures (walking_done c.args.st c.loop-k.invariant c.loop-k-test.false)

@@ -5,75 +5,6 @@ use Rattle.unifier_nodes.proofs.Getting.{read_as, known_stands, known_slot, know
 use Rattle.unifier_resolve.proofs.Occurring.{readable_known, known_readable, known_readable_all, checks_none, checks_plain, checks_same, checks_free, checks_bound, checks_func, checks_phi, checks_as, Trying, trying_none, trying_ends, trying_more, trying_readable, trying_word, trying_done}
 use Rattle.unifier_resolve.proofs.+occurs_any_occurs_check.Goals as goal
 
-occurs-check-returns : (t : ℕ) → occurs-check-lts.Need-returns (occurs-check-env t) (occurs-check-at t) occurs_check.Post
-occurs-check-returns t c = checks_none _ _ _ _ _ c.if1.true
-
-occurs-check-node-at-requires : (t : ℕ) → occurs-check-lts.Need-node-at-requires (occurs-check-env t) (occurs-check-at t) occurs_check.Post
-occurs-check-node-at-requires t c κs =
-    let r = c.before.before.requires.1 in
-    known_stands r.fits (readable_known r)
-
-occurs-check-returns-2 : (t : ℕ) → occurs-check-lts.Need-returns-2 (occurs-check-env t) (occurs-check-at t) occurs_check.Post
-occurs-check-returns-2 t c =
-    let m = c.before.before.before.before in
-    checks_same _ _ m.before.before.before.if1.false (read_as m.s.given.1 m.before.before.node_at.ensures) c.if2.true
-
-occurs-check-shared-slice-read-b : (t : ℕ) → occurs-check-lts.Need-shared-slice-read-b (occurs-check-env t) (occurs-check-at t) occurs_check.Post
-occurs-check-shared-slice-read-b t c =
-    let m = c.before.before.before.before.before.before in
-    let r = m.before.before.before.before.before.requires.1 in
-    known_slot r.fits (readable_known r) (read_as m.s.given.1 m.before.before.node_at.ensures)
-
-occurs-check-returns-3 : (t : ℕ) → occurs-check-lts.Need-returns-3 (occurs-check-env t) (occurs-check-at t) occurs_check.Post
-occurs-check-returns-3 t c =
-    let m = c.before.before.before.before.before.before.before in
-    checks_free _ _ m.before.before.before.if1.false (read_as m.s.given.1 m.before.before.node_at.ensures) c.before.before.before.if2.false c.if3.true
-
-occurs-check-occurs-check-requires : (t : ℕ) → occurs-check-lts.Need-occurs-check-requires (occurs-check-env t) (occurs-check-at t) occurs_check.Post
-occurs-check-occurs-check-requires t c κs =
-    let m = c.before.before.before.before.before.before.before in
-    let r = m.before.before.before.before.before.requires.1 in
-    (omega arith, known_readable r.fits (known_bound r.fits (readable_known r) (read_as m.s.given.1 m.before.before.node_at.ensures) c.if3.false))
-
-occurs-check-occurs-check-requires-2 : (t : ℕ) → occurs-check-lts.Need-occurs-check-requires-2 (occurs-check-env t) (occurs-check-at t) occurs_check.Post
-occurs-check-occurs-check-requires-2 t c κs =
-    let m = c.before in
-    let r = m.before.before.before.before.before.requires.1 in
-    (omega arith, known_readable r.fits (known_func r.fits (readable_known r) (read_as m.ret.given.1 m.before.before.node_at.ensures)))
-
-occurs-check-occurs-any-requires : (t : ℕ) → occurs-check-lts.Need-occurs-any-requires (occurs-check-env t) (occurs-check-at t) occurs_check.Post
-occurs-check-occurs-any-requires t c κs =
-    let m = c.before in
-    let r = m.before.before.before.before.before.requires.1 in
-    (omega arith, known_readable_all r.fits (known_phi r.fits (readable_known r) (read_as m.at.given.1 m.before.before.node_at.ensures)))
-
-occurs-check-returns-4 : (t : ℕ) → occurs-check-lts.Need-returns-4 (occurs-check-env t) (occurs-check-at t) occurs_check.Post
-occurs-check-returns-4 t c =
-    let m = c.before.before.before.before.before.before.before.before in
-    checks_bound _ _ m.before.before.before.if1.false (read_as m.s.given.1 m.before.before.node_at.ensures) c.before.before.before.before.if2.false c.before.if3.false c.occurs_check.ensures
-
-occurs-check-returns-5 : (t : ℕ) → occurs-check-lts.Need-returns-5 (occurs-check-env t) (occurs-check-at t) occurs_check.Post
-occurs-check-returns-5 t c =
-    let m = c.before.before in
-    checks_func _ _ m.before.before.before.if1.false (read_as m.ret.given.1 m.before.before.node_at.ensures) c.occurs-check2.ensures
-
-occurs-check-returns-6 : (t : ℕ) → occurs-check-lts.Need-returns-6 (occurs-check-env t) (occurs-check-at t) occurs_check.Post
-occurs-check-returns-6 t c =
-    let m = c.before.before in
-    checks_phi _ _ m.before.before.before.if1.false (read_as m.at.given.1 m.before.before.node_at.ensures) c.occurs-any.ensures
-
-occurs-check-returns-7 : (t : ℕ) → occurs-check-lts.Need-returns-7 (occurs-check-env t) (occurs-check-at t) occurs_check.Post
-occurs-check-returns-7 t c = checks_plain _ _ c.before.before.before.if1.false (read_as c.enum_told.given.1 c.before.before.node_at.ensures) tt
-
-occurs-check-returns-8 : (t : ℕ) → occurs-check-lts.Need-returns-8 (occurs-check-env t) (occurs-check-at t) occurs_check.Post
-occurs-check-returns-8 t c = checks_plain _ _ c.before.before.before.if1.false (read_as c.enum-told2.given.1 c.before.before.node_at.ensures) tt
-
-occurs-check-returns-9 : (t : ℕ) → occurs-check-lts.Need-returns-9 (occurs-check-env t) (occurs-check-at t) occurs_check.Post
-occurs-check-returns-9 t c = checks_plain _ _ c.before.before.before.if1.false (read_as c.enum-told3.given.1 c.before.before.node_at.ensures) tt
-
-occurs-check-returns-10 : (t : ℕ) → occurs-check-lts.Need-returns-10 (occurs-check-env t) (occurs-check-at t) occurs_check.Post
-occurs-check-returns-10 t c = checks_plain _ _ c.before.before.before.if1.false (read_as c.enum-told4.given.1 c.before.before.node_at.ensures) tt
-
 pub occurs_any-loop-k-init : goal.occurs_any-loop-k-init
 occurs_any-loop-k-init t c = trying_none _ _ _ _ _ _
 
@@ -95,3 +26,63 @@ occurs_any-loop-k-preserved t c = trying_more c.loop-k.invariant c.loop-k-test.t
 
 pub occurs_any-returns : goal.occurs_any-returns
 occurs_any-returns t c = trying_done c.loop-k.invariant c.loop-k-test.false
+
+pub occurs_check-returns-then-left-eq0 : goal.occurs_check-returns-then-left-eq0
+occurs_check-returns-then-left-eq0 t c = checks_none _ _ _ _ _ c.if-left-eq0.true
+
+pub occurs_check-node_at-requires : goal.occurs_check-node_at-requires
+occurs_check-node_at-requires t c =
+    let r = c.requires in
+    known_stands r.fits (readable_known r)
+
+pub occurs_check-returns-then-s-v : goal.occurs_check-returns-then-s-v
+occurs_check-returns-then-s-v t c =
+    checks_same _ _ c.if-left-eq0.false (read_as c.in-Var.is c.node_at.ensures) c.if-s-v.true
+
+pub occurs_check-bounds-w-s : goal.occurs_check-bounds-w-s
+occurs_check-bounds-w-s t c =
+    let r = c.requires in
+    known_slot r.fits (readable_known r) (read_as c.in-Var.is c.node_at.ensures)
+
+pub occurs_check-returns-then-b-eq0 : goal.occurs_check-returns-then-b-eq0
+occurs_check-returns-then-b-eq0 t c =
+    checks_free _ _ c.if-left-eq0.false (read_as c.in-Var.is c.node_at.ensures) c.if-s-v.false c.if-b-eq0.true
+
+pub occurs_check-occurs_check-requires : goal.occurs_check-occurs_check-requires
+occurs_check-occurs_check-requires t c =
+    let r = c.requires in
+    (omega arith, known_readable r.fits (known_bound r.fits (readable_known r) (read_as c.in-Var.is c.node_at.ensures) c.if-b-eq0.false))
+
+pub occurs_check-occurs_check-requires-in-Function : goal.occurs_check-occurs_check-requires-in-Function
+occurs_check-occurs_check-requires-in-Function t c =
+    let r = c.requires in
+    (omega arith, known_readable r.fits (known_func r.fits (readable_known r) (read_as c.in-Function.is c.node_at.ensures)))
+
+pub occurs_check-occurs_any-requires : goal.occurs_check-occurs_any-requires
+occurs_check-occurs_any-requires t c =
+    let r = c.requires in
+    (omega arith, known_readable_all r.fits (known_phi r.fits (readable_known r) (read_as c.in-Phi.is c.node_at.ensures)))
+
+pub occurs_check-returns-else-b-eq0 : goal.occurs_check-returns-else-b-eq0
+occurs_check-returns-else-b-eq0 t c =
+    checks_bound _ _ c.if-left-eq0.false (read_as c.in-Var.is c.node_at.ensures) c.if-s-v.false c.if-b-eq0.false c.occurs_check.ensures
+
+pub occurs_check-returns-in-Function : goal.occurs_check-returns-in-Function
+occurs_check-returns-in-Function t c =
+    checks_func _ _ c.if-left-eq0.false (read_as c.in-Function.is c.node_at.ensures) c.occurs_check-in-Function.ensures
+
+pub occurs_check-returns-in-Phi : goal.occurs_check-returns-in-Phi
+occurs_check-returns-in-Phi t c =
+    checks_phi _ _ c.if-left-eq0.false (read_as c.in-Phi.is c.node_at.ensures) c.occurs_any.ensures
+
+pub occurs_check-returns-in-Primitive : goal.occurs_check-returns-in-Primitive
+occurs_check-returns-in-Primitive t c = checks_plain _ _ c.if-left-eq0.false (read_as c.in-Primitive.is c.node_at.ensures) tt
+
+pub occurs_check-returns-in-Poly : goal.occurs_check-returns-in-Poly
+occurs_check-returns-in-Poly t c = checks_plain _ _ c.if-left-eq0.false (read_as c.in-Poly.is c.node_at.ensures) tt
+
+pub occurs_check-returns-in-ObjectMethod : goal.occurs_check-returns-in-ObjectMethod
+occurs_check-returns-in-ObjectMethod t c = checks_plain _ _ c.if-left-eq0.false (read_as c.in-ObjectMethod.is c.node_at.ensures) tt
+
+pub occurs_check-returns-in-Object : goal.occurs_check-returns-in-Object
+occurs_check-returns-in-Object t c = checks_plain _ _ c.if-left-eq0.false (read_as c.in-Object.is c.node_at.ensures) tt
