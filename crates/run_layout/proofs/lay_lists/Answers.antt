@@ -7,6 +7,7 @@ use Rattle.unifier_nodes.specs.Walks.{type_node}
 use Rattle.run_layout.specs.Laying.{LaysWords, ListWord}
 use Rattle.run_layout.proofs.LayingLaws.{words_none, words_store, words_skip, words_all, placed_in}
 use Rattle.run_layout.proofs.lay_lists.Goals as goal
+use Rattle.run_layout.proofs.lay_lists.Goals.{else-t-types, then-t-types}
 
 pub loop-k-init : goal.loop-k-init
 loop-k-init c = (omega arith, words_none)
@@ -29,10 +30,7 @@ bounds-w-lists c = omega (arith, c.requires, c.loop-k.invariant.1.kept.len)
 pub loop-k-preserved : goal.loop-k-preserved
 loop-k-preserved c = (
   omega arith,
-  ⊎_elim
-      (λ p. rw p.2 (words_store c.loop-k.invariant.1 _ (omega (arith, c.requires, c.loop-k.invariant.1.kept.len)) (λ l. p.1.ensures ∙ ap (type_node _ _) c.cell-t.ensures)))
-      (λ p. rw p.1 (words_skip c.loop-k.invariant.1 (λ l. absurd (omega arith))))
-      c.if-t-types.branch,
+  elim c.if-t-types.branch [ then-t-types p ↦ rw p.w-is (words_store c.loop-k.invariant.1 _ (omega (arith, c.requires, c.loop-k.invariant.1.kept.len)) (λ l. p.node_of_type.ensures ∙ ap (type_node _ _) c.cell-t.ensures)) | else-t-types p ↦ rw p.w-is (words_skip c.loop-k.invariant.1 (λ l. absurd (omega arith))) ],
 )
 
 pub shape_of-w : goal.shape_of-w

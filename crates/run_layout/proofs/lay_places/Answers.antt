@@ -6,6 +6,7 @@ use lib.ListN.{length}
 use Rattle.run_layout.specs.Laying.{LaysWords, PlaceWord}
 use Rattle.run_layout.proofs.LayingLaws.{words_none, words_store, words_skip, words_all}
 use Rattle.run_layout.proofs.lay_places.Goals as goal
+use Rattle.run_layout.proofs.lay_places.Goals.{else-id-n, then-id-n}
 
 pub loop-k-init : goal.loop-k-init
 loop-k-init c = (omega arith, words_none)
@@ -25,10 +26,7 @@ bounds-w-places c = omega (arith, c.requires, c.loop-k.invariant.1.kept.len)
 pub loop-k-preserved : goal.loop-k-preserved
 loop-k-preserved c = (
   omega arith,
-  ⊎_elim
-      (λ p. rw p.2 (words_store c.loop-k.invariant.1 _ (omega (arith, c.requires, c.loop-k.invariant.1.kept.len)) (λ l. p.1.ensures)))
-      (λ p. rw p.1 (words_skip c.loop-k.invariant.1 (λ l. absurd (omega arith))))
-      c.if-id-n.branch,
+  elim c.if-id-n.branch [ then-id-n p ↦ rw p.w-is (words_store c.loop-k.invariant.1 _ (omega (arith, c.requires, c.loop-k.invariant.1.kept.len)) (λ l. p.slot_of-slot.ensures)) | else-id-n p ↦ rw p.w-is (words_skip c.loop-k.invariant.1 (λ l. absurd (omega arith))) ],
 )
 
 pub shape_of-w : goal.shape_of-w

@@ -5,6 +5,7 @@ use mathlib.Core.Logic.{⊎_elim}
 use lib.ListN.{length-set}
 use Rattle.run_layout.proofs.ReturnWalks.{Returning, this_block, block_long, count_inside, block_instructions, returning_start, returning_bounds, returning_skip, returning_more, returning_inside, returning_end}
 use Rattle.run_layout.proofs.lay_returned.Goals as goal
+use Rattle.run_layout.proofs.lay_returned.Goals.{else-img-b-eq-RETURN, then-img-b-eq-RETURN}
 
 pub loop-init : goal.loop-init
 loop-init c = returning_start c.requires.fits
@@ -70,10 +71,7 @@ pub overflow_add-at-in-loop : goal.overflow_add-at-in-loop
 overflow_add-at-in-loop c = omega (arith, returning_bounds c.requires c.loop.invariant c.loop-test.true c.after_phis-a.ensures c.after_instructions-b.ensures)
 
 pub loop-preserved : goal.loop-preserved
-loop-preserved c = ⊎_elim
-    (λ p. rw (p.2, p.3) (returning_more c.requires c.loop.invariant c.loop-test.true c.after_phis-a.ensures c.after_instructions-b.ensures p.0.taken))
-    (λ p. rw (p.1, p.2) (returning_skip c.requires c.loop.invariant c.loop-test.true c.after_phis-a.ensures c.after_instructions-b.ensures p.0.left))
-    c.if-img-b-eq-RETURN.branch
+loop-preserved c = elim c.if-img-b-eq-RETURN.branch [ then-img-b-eq-RETURN p ↦ rw (p.w-is, p.m-is) (returning_more c.requires c.loop.invariant c.loop-test.true c.after_phis-a.ensures c.after_instructions-b.ensures p.if-img-b-eq-RETURN.true) | else-img-b-eq-RETURN p ↦ rw (p.w-is, p.m-is) (returning_skip c.requires c.loop.invariant c.loop-test.true c.after_phis-a.ensures c.after_instructions-b.ensures p.if-img-b-eq-RETURN.false) ]
 
 pub offset_bounds-w-returns-2 : goal.offset_bounds-w-returns-2
 offset_bounds-w-returns-2 c = omega (arith, returning_inside c.requires c.loop.invariant)
