@@ -11,7 +11,7 @@ returns-then-steps-eq0 c = rw (c.without_lookup.ensures, c.refuse.ensures) (acce
 
 pub unify_ref-state-requires : goal.unify_ref-state-requires
 unify_ref-state-requires c = let p = c.requires in
-    let q = rw c.refuse-next.ensures (asked_room p (omega arith), (p.known, p.refs)) in record { room = q.0; known_both = q.1.0; refs_laid = q.1.1 }
+    rw c.refuse-next.ensures (record { room = asked_room p (omega arith); known_both = p.known; refs_laid = p.refs })
 
 pub shape_of-w-then-ref_like : goal.shape_of-w-then-ref_like
 shape_of-w-then-ref_like c = c.unify_ref-state.ensures.keeps.frame.len
@@ -22,7 +22,7 @@ returns-then-ref_like c =
 
 pub get-g-requires : goal.get-g-requires
 get-g-requires c = let p = c.requires in
-    let q = rw c.refuse-next.ensures (asked_room p (omega arith), known_right p.known) in record { room = q.0; known = q.1 }
+    rw c.refuse-next.ensures (record { room = asked_room p (omega arith); known = known_right p.known })
 
 pub shape_of-w-then-refused-ne0 : goal.shape_of-w-then-refused-ne0
 shape_of-w-then-refused-ne0 c = c.get-g.ensures.frame.len

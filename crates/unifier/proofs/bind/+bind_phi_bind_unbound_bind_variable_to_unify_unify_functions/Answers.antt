@@ -97,14 +97,14 @@ bind_unbound-returns-then-to-ne0 t c =
     unbound_bound (room_fits c.requires.room).1 (rw c.in-Var.is at c.node_at.ensures) c.requires.slot_lt_lo c.if-to-ne0.true c.unify.ensures.binds
 
 pub bind_unbound-bind_checked-requires : goal.bind_unbound-bind_checked-requires
-bind_unbound-bind_checked-requires t c = let q = c.requires in record { room = q.0; known = q.1.0; slot_lt_lo = q.1.1 }
+bind_unbound-bind_checked-requires t c = record { room = c.requires.room; known = c.requires.known; slot_lt_lo = c.requires.slot_lt_lo }
 
 pub bind_unbound-bind_phi-requires : goal.bind_unbound-bind_phi-requires
 bind_unbound-bind_phi-requires t c =
     (omega arith, (c.requires.room, (c.requires.known, (c.requires.slot_lt_lo, rw c.in-Phi.is at c.node_at.ensures))))
 
 pub bind_unbound-bind_checked-requires-in_default : goal.bind_unbound-bind_checked-requires-in_default
-bind_unbound-bind_checked-requires-in_default t c = let q = c.requires in record { room = q.0; known = q.1.0; slot_lt_lo = q.1.1 }
+bind_unbound-bind_checked-requires-in_default t c = record { room = c.requires.room; known = c.requires.known; slot_lt_lo = c.requires.slot_lt_lo }
 
 pub bind_unbound-shape_of-w-else-to-ne0 : goal.bind_unbound-shape_of-w-else-to-ne0
 bind_unbound-shape_of-w-else-to-ne0 t c = c.bind_checked.ensures.keeps.frame.len
@@ -190,7 +190,7 @@ unify-returns-then-type_equals t c =
 
 pub unify-bind_variable_to-requires : goal.unify-bind_variable_to-requires
 unify-bind_variable_to-requires t c =
-    rw c.refuse-next.ensures (omega arith, c.requires)
+    rw c.refuse-next.ensures (omega arith, (c.requires.room, c.requires.known_both))
 
 pub unify-shape_of-w-then-a-lo : goal.unify-shape_of-w-then-a-lo
 unify-shape_of-w-then-a-lo t c = c.bind_variable_to.ensures.keeps.frame.len

@@ -9,8 +9,7 @@ occurs_check-requires c = known_readable (room_fits c.requires.room).1 c.require
 
 pub bind_resolved-requires : goal.bind_resolved-requires
 bind_resolved-requires c = let h = rw c.in-Yes.is at c.occurs_check.ensures in
-    let q = rw c.refuse-in-Yes.ensures
-    (room_less (yes_fewer (known_readable (room_fits c.requires.room).1 c.requires.known) h) c.requires.room, (c.requires.known, c.requires.slot_lt_lo)) in record { room = q.0; known = q.1.0; slot_lt_lo = q.1.1 }
+    rw c.refuse-in-Yes.ensures (record { room = room_less (yes_fewer (known_readable (room_fits c.requires.room).1 c.requires.known) h) c.requires.room; known = c.requires.known; slot_lt_lo = c.requires.slot_lt_lo })
 
 pub overflow_add-w : goal.overflow_add-w
 overflow_add-w c =

@@ -6,7 +6,7 @@ use mathlib.Core.Path.{◌∙◌}
 use Prim.Native.Nat.{◌-◌}
 use Rattle.unifier.proofs.Candidates.{Choosing, choosing_start, chosen_all, choosing_low, choosing_room, choosing_known, chosen_spent, choosing_both, choosing_same, choosing_union, chosen_none}
 use Rattle.unifier.proofs.bind.phi_candidate.Goals as goal
-use Rattle.unifier.proofs.bind.phi_candidate.Goals.{else-not-type_equals, then-not-type_equals}
+use Rattle.unifier.proofs.bind.phi_candidate.Goals.{else-not-type_equals, then-not-type_equals+in-Found}
 
 pub loop-k-init : goal.loop-k-init
 loop-k-init c = choosing_start _ _ _ _ _ _ c.requires.refused_value
@@ -31,7 +31,7 @@ pub loop-k-preserved : goal.loop-k-preserved
 loop-k-preserved c =
     let lt = c.if-k-count.false in
     let q = c.type_equals.ensures in
-    elim c.if-not-type_equals.branch [ then-not-type_equals y ↦ rw y.6 (choosing_union c.loop-k.invariant c.requires.room c.requires.known_rest lt c.get-g.ensures c.if-refused-ne0.false (rw (y.if-not-type_equals.true) at q) (rw y.4.given.1 at y.2.ensures)) | else-not-type_equals y ↦ rw y.1 (choosing_same c.loop-k.invariant c.requires.room c.requires.known_rest lt c.get-g.ensures c.if-refused-ne0.false (rw (y.if-not-type_equals.false) at q)) ]
+    elim c.if-not-type_equals.branch [ then-not-type_equals+in-Found y ↦ rw y.c-is (choosing_union c.loop-k.invariant c.requires.room c.requires.known_rest lt c.get-g.ensures c.if-refused-ne0.false (rw (y.if-not-type_equals.true) at q) (rw y.in-Found.is at y.try_union_types.ensures)) | else-not-type_equals y ↦ rw y.c-is (choosing_same c.loop-k.invariant c.requires.room c.requires.known_rest lt c.get-g.ensures c.if-refused-ne0.false (rw (y.if-not-type_equals.false) at q)) ]
 
 pub shape_of-w-then-k-count : goal.shape_of-w-then-k-count
 shape_of-w-then-k-count c = c.loop-k.invariant.frame.len
