@@ -1,0 +1,77 @@
+use native.Mathlib.Omega.{arith}
+use borrow.Author.Rules.{rules}
+use Prim.Native.Nat.{ℕ, ◌<◌, ◌+◌, ◌*◌}
+use Rattle.listing_walk.proofs.Pushing.{pushed_none, pushed_one, asked_stands, room_alone, pushes_alone, asks_func, pushes_func, asks_phi, pushes_phi, Pushing, pushing_none, next_operand, pushing_more, pushing_end, pushing_length}
+use Rattle.listing_walk.proofs.+push_operands_push_variables.Goals as goal
+
+pub push_operands-loop-k-init : goal.push_operands-loop-k-init
+push_operands-loop-k-init t c = pushing_none c.requires
+
+pub push_operands-overflow_add-n : goal.push_operands-overflow_add-n
+push_operands-overflow_add-n t c = omega (arith, (next_operand c.loop-k.invariant c.loop-k-test.true).0)
+
+pub push_operands-offset_bounds-w-at : goal.push_operands-offset_bounds-w-at
+push_operands-offset_bounds-w-at t c = omega (arith, (next_operand c.loop-k.invariant c.loop-k-test.true).0)
+
+pub push_operands-bounds-w-at : goal.push_operands-bounds-w-at
+push_operands-bounds-w-at t c = omega (arith, (next_operand c.loop-k.invariant c.loop-k-test.true).0)
+
+pub push_operands-push_variables-end-requires : goal.push_operands-push_variables-end-requires
+push_operands-push_variables-end-requires t c =
+    let q = next_operand c.loop-k.invariant c.loop-k-test.true in (omega (arith, q.1), q.2)
+
+pub push_operands-loop-k-preserved : goal.push_operands-loop-k-preserved
+push_operands-loop-k-preserved t c =
+    pushing_more c.loop-k.invariant c.loop-k-test.true c.push_variables-end.ensures
+
+pub push_operands-shape_of-w : goal.push_operands-shape_of-w
+push_operands-shape_of-w t c = pushing_length c.loop-k.invariant
+
+pub push_operands-returns : goal.push_operands-returns
+push_operands-returns t c = pushing_end c.loop-k.invariant c.loop-k-test.false
+
+pub push_variables-node_at-requires : goal.push_variables-node_at-requires
+push_variables-node_at-requires t c = asked_stands c.requires
+
+pub push_variables-bounds-w-end : goal.push_variables-bounds-w-end
+push_variables-bounds-w-end t c =
+    omega (arith, room_alone c.requires (rw c.in-Var.is at c.node_at.ensures) tt)
+
+pub push_variables-overflow_add-result : goal.push_variables-overflow_add-result
+push_variables-overflow_add-result t c =
+    let s = c.requires in
+    omega (arith, room_alone s (rw c.in-Var.is at c.node_at.ensures) tt, s.small)
+
+pub push_variables-push_variables-requires : goal.push_variables-push_variables-requires
+push_variables-push_variables-requires t c =
+    let q = asks_func c.requires (rw c.in-Function.is at c.node_at.ensures) in (omega (arith, q.0), q.1)
+
+pub push_variables-push_operands-requires : goal.push_variables-push_operands-requires
+push_variables-push_operands-requires t c =
+    (omega arith, asks_phi c.requires (rw c.in-Phi.is at c.node_at.ensures))
+
+pub push_variables-returns-in-Var : goal.push_variables-returns-in-Var
+push_variables-returns-in-Var t c =
+    let s = c.requires in
+    let h = rw c.in-Var.is at c.node_at.ensures in
+    pushes_alone s h tt (pushed_one _ _ _ (room_alone s h tt))
+
+pub push_variables-returns-in-Primitive : goal.push_variables-returns-in-Primitive
+push_variables-returns-in-Primitive t c = pushes_alone c.requires (rw c.in-Primitive.is at c.node_at.ensures) tt (pushed_none _ _)
+
+pub push_variables-returns-in-Poly : goal.push_variables-returns-in-Poly
+push_variables-returns-in-Poly t c = pushes_alone c.requires (rw c.in-Poly.is at c.node_at.ensures) tt (pushed_none _ _)
+
+pub push_variables-returns-in-ObjectMethod : goal.push_variables-returns-in-ObjectMethod
+push_variables-returns-in-ObjectMethod t c = pushes_alone c.requires (rw c.in-ObjectMethod.is at c.node_at.ensures) tt (pushed_none _ _)
+
+pub push_variables-returns-in-Object : goal.push_variables-returns-in-Object
+push_variables-returns-in-Object t c = pushes_alone c.requires (rw c.in-Object.is at c.node_at.ensures) tt (pushed_none _ _)
+
+pub push_variables-returns-in-Function : goal.push_variables-returns-in-Function
+push_variables-returns-in-Function t c =
+    pushes_func c.requires (rw c.in-Function.is at c.node_at.ensures) c.push_variables.ensures
+
+pub push_variables-returns-in-Phi : goal.push_variables-returns-in-Phi
+push_variables-returns-in-Phi t c =
+    pushes_phi c.requires (rw c.in-Phi.is at c.node_at.ensures) c.push_operands.ensures

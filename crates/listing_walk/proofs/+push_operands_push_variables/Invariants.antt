@@ -1,0 +1,17 @@
+use native.Mathlib.Omega.{arith}
+use borrow.Author.Rules.{rules}
+use Prim.Native.Nat.{ℕ, ◌<◌, ◌+◌, ◌*◌}
+use Rattle.listing_walk.proofs.Pushing.{pushed_none, pushed_one, asked_stands, room_alone, pushes_alone, asks_func, pushes_func, asks_phi, pushes_phi, Pushing, pushing_none, next_operand, pushing_more, pushing_end, pushing_length}
+use Rattle.listing_walk.proofs.+push_operands_push_variables.Given as goal
+
+abbrev pub decreases-push_operands : goal.decreases-push_operands
+decreases-push_operands l = 2 * l.last
+
+abbrev pub decreases-push_variables : goal.decreases-push_variables
+decreases-push_variables l = 2 * l.n + 1
+
+abbrev pub invariant-push_operands-loop-k : goal.invariant-push_operands-loop-k
+invariant-push_operands-loop-k l = Pushing l.initial.w l.lo l.last l.at l.count l.from l.w l.end l.k
+
+abbrev pub decreases-push_operands-loop-k : goal.decreases-push_operands-loop-k
+decreases-push_operands-loop-k l = l.k

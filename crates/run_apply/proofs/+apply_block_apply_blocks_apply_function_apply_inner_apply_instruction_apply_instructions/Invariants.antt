@@ -1,0 +1,43 @@
+use Prim.Native.Nat.{◌+◌, ◌*◌, ◌-◌}
+use mathlib.Core.Path.{refl, ap}
+use mathlib.Core.Logic.{inl, inr}
+use Rattle.image.specs.Ty.{NONE}
+use Rattle.run_definition.specs.Position.{after_instruction, after_block}
+use Rattle.run_definition.proofs.PositionLaws.{nested_below}
+use Rattle.run_apply.proofs.ApplyLaws.{laid_of, few_functions, passing_next}
+use Rattle.run_apply.proofs.ApplyLoops.{Left, left_none, left_first, left_more, left_done, left_to, instruction_lies, instructions_course, instructions_turn, blocks_course, blocks_turn}
+use Rattle.run_apply.proofs.ApplyParts.{nested_none, nested_some, instruction_plain, instruction_naming, block_end, block_lies, block_instructions, block_parts, params_lie, returns_fit, context_fits, context_lies, blocks_lie, blocks_fit, inner_parts, function_parts}
+use borrow.Author.Rules.{rules}
+use native.Mathlib.Omega.{arith}
+use Prim.Native.Nat.{ℕ, ◌<◌}
+use Rattle.run_apply.proofs.+apply_block_apply_blocks_apply_function_apply_inner_apply_instruction_apply_instructions.Given as goal
+
+abbrev pub decreases-apply_block : goal.decreases-apply_block
+decreases-apply_block l = 6 * (65536 - l.f) + 2
+
+abbrev pub decreases-apply_blocks : goal.decreases-apply_blocks
+decreases-apply_blocks l = 6 * (65536 - l.f) + 3
+
+abbrev pub decreases-apply_function : goal.decreases-apply_function
+decreases-apply_function l = 6 * (65536 - l.f) + 4
+
+abbrev pub decreases-apply_inner : goal.decreases-apply_inner
+decreases-apply_inner l = 6 * (65536 - l.f) + 5
+
+abbrev pub decreases-apply_instruction : goal.decreases-apply_instruction
+decreases-apply_instruction l = 6 * (65536 - l.f)
+
+abbrev pub decreases-apply_instructions : goal.decreases-apply_instructions
+decreases-apply_instructions l = 6 * (65536 - l.f) + 1
+
+abbrev pub invariant-apply_blocks-loop : goal.invariant-apply_blocks-loop
+invariant-apply_blocks-loop l = Left (blocks_course l.img l.f) l.img l.lay l.from l.n l.initial.w l.initial.g l.w l.g l.counter l.at
+
+abbrev pub decreases-apply_blocks-loop : goal.decreases-apply_blocks-loop
+decreases-apply_blocks-loop l = l.n - l.counter
+
+abbrev pub invariant-apply_instructions-loop : goal.invariant-apply_instructions-loop
+invariant-apply_instructions-loop l = Left (instructions_course l.img l.f) l.img l.lay l.from l.n l.initial.w l.initial.g l.w l.g l.counter l.at
+
+abbrev pub decreases-apply_instructions-loop : goal.decreases-apply_instructions-loop
+decreases-apply_instructions-loop l = l.n - l.counter
