@@ -1,0 +1,6 @@
+use borrow.Author.Rules.{rules}
+use Rattle.run_generate.proofs.Cycle.{outermost_ready}
+use Rattle.run_generate.proofs.generate.Goals as goal
+
+pub generate_function-requires : goal.generate_function-requires
+generate_function-requires c = outermost_ready c.requires
