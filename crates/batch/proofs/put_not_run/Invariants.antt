@@ -1,0 +1,16 @@
+use Prim.Native.Nat.{◌*◌, ◌-◌, ◌≤◌}
+use mathlib.Core.Path.{◌≡◌, refl, ap, ◌∙◌}
+use native.Mathlib.Omega.{arith}
+use borrow.Author.Rules.{rules}
+use lib.ListN.{length}
+use Rattle.run_answer.specs.Lent.{put}
+use Rattle.batch.specs.Batch.{not_run_rows}
+use Rattle.batch.proofs.Puts.{put_length}
+use Rattle.batch.proofs.NotRun.{row_length, not_run_none, not_run_one}
+use Rattle.batch.proofs.put_not_run.Given as goal
+
+abbrev pub invariant-loop-k : goal.invariant-loop-k
+invariant-loop-k l = (l.from ≤ l.k) × (l.k ≤ l.count) × (length l.answers ≡ length l.initial.answers) × (l.answers ≡ put l.initial.answers (9 * l.from) (not_run_rows (l.k - l.from)))
+
+abbrev pub decreases-loop-k : goal.decreases-loop-k
+decreases-loop-k l = l.count - l.k

@@ -1,0 +1,6 @@
+use mathlib.Core.Path.{refl}
+use borrow.Author.Rules.{rules}
+use Rattle.listing.proofs.refused.Goals as goal
+
+pub returns : goal.returns
+returns c = (c.refusal.ensures, refl)
