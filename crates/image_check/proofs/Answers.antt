@@ -1,6 +1,6 @@
 -- What the pass over all bodies answers is refusal 9, 10 or neither, if no two share a word. Assumes nothing.
 use Prim.Native.Nat.{ℕ}
-use mathlib.Core.Path.{◌≡◌, refl, ◌∙◌}
+use mathlib.Core.Path.{◌≡◌, refl}
 use mathlib.Core.Bool.{Bool, true, false, ◌&&◌}
 use mathlib.Core.List.{List}
 use Rattle.image.specs.declared.Table.TheVariants.{Functions}

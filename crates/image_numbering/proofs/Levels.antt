@@ -3,14 +3,14 @@ use Prim.Native.Nat.{ℕ, zero, suc, ◌+◌, ◌-◌, ◌≤◌, ◌<◌}
 use native.Mathlib.Omega.{arith}
 use native.Mathlib.Decide.{dec_lt}
 use mathlib.Core.Path.{◌≡◌, refl, sym, ap, ap₂, ◌∙◌}
-use mathlib.Core.List.{List, [], ◌++◌}
-use lib.ListN.{length, get_or, take, drop, replicate, length-take, length-drop, length-replicate}
+use mathlib.Core.List.{List, ◌++◌}
+use lib.ListN.{length, take, drop, replicate, length-drop, length-replicate}
 use lib.Seq.{take-take, take-add, drop_at, drop-drop, length-take-le}
 use Rattle.image.specs.declared.Table.TheVariants.{Properties}
 use Rattle.image.specs.Image.{count, range, name_at}
 use Rattle.image.specs.Laid.{NamesInside}
 use Rattle.image_numbering.specs.Numbering.{at}
-use Rattle.image_numbering.specs.Blocks.{start_of, length_of, name_of, NamesIn, Blocks, Spans, Spanned, Ended, Ends}
+use Rattle.image_numbering.specs.Blocks.{start_of, length_of, name_of, NamesIn, Blocks, Spans, Ended, Ends}
 
 -- the first and the last h bytes of a range
 range_front : (bytes : List ℕ) (s h l : ℕ) → h ≤ l → take h (range bytes s l) ≡ range bytes s h

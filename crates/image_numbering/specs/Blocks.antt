@@ -1,6 +1,5 @@
 -- Numbers for blocks of the name bytes and for the names of property rows: what the contracts of the code that gives them say. Assumes nothing.
 use Rattle.std.specs.Prelude.{ℕ, ◌+◌, ◌-◌, ◌≤◌, ◌<◌, ◌≡◌, ◌⊎◌, List, length, leb}
-use Rattle.image.specs.declared.Table.{Table}
 use Rattle.image.specs.declared.Table.TheVariants.{Names, Properties}
 use Rattle.image.specs.Image.{count, cell, range, name_at}
 use Rattle.image.specs.Laid.{Laid}

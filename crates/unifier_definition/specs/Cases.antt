@@ -1,5 +1,5 @@
 -- What the Rust's `if let` and `matches!` see of a type. Assumes nothing.
-use Rattle.std.specs.Prelude.{ℕ, Bool, true, false, eqb}
+use Rattle.std.specs.Prelude.{ℕ, Bool, eqb}
 use Rattle.std.proofs.Math.Option.{Option, none, some}
 use Rattle.image.specs.Ty.{NONE, Ty, var, prim, poly, method, object, func, phi, Tys, function_kind}
 

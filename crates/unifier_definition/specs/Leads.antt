@@ -1,7 +1,7 @@
 -- What document 01 says of a substitution ("What a contract says"): mentions, leads to, resolving. Assumes nothing.
 use Rattle.std.specs.Prelude.{ℕ, ◌≡◌, Bool}
 use Rattle.std.proofs.Math.Option.{Option, none, some}
-use mathlib.Core.List.{List, Memᴰ}
+use mathlib.Core.List.{Memᴰ}
 use Rattle.image.specs.Ty.{Ty, var, prim, poly, method, object, func, phi, Tys, nil, cons, variables}
 
 -- the binding of each bound variable: `lookup` of a log, or of the binding table

@@ -2,8 +2,8 @@
 -- σ is the substitution and s the steps left. Each charged function has three parts: NAME-body, the text after the charge, whose own
 -- charged calls go to the functions that it is given; NAME-fuel, which ties the knot by a depth; and NAME, with the steps left as
 -- the depth. Each call takes one of both, so that where the depth ends no step is left.
-use Rattle.std.specs.Prelude.{ℕ, zero, suc, Bool, true, false, List}
-use Rattle.std.proofs.Math.Option.{Option, none, some}
+use Rattle.std.specs.Prelude.{ℕ, zero, suc, Bool, true, false}
+use Rattle.std.proofs.Math.Option.{none, some}
 use Rattle.image.specs.Ty.{Ty, var, prim, poly, method, object, func, phi, Tys, nil, cons}
 use Rattle.unifier_definition.specs.Cases.{as_var}
 use Rattle.unifier_definition.specs.Equal.{equals_some, type_equals}

@@ -1,5 +1,5 @@
 -- `unify` and `bind_variable_to` of infer_types.rs, in the Rust's order of tests and in the parts that Resolve.antt names. Assumes nothing.
-use Rattle.std.specs.Prelude.{ℕ, zero, suc, Bool, true, false, List, [], ◌∷◌}
+use Rattle.std.specs.Prelude.{ℕ, zero, suc, true, false, List, [], ◌∷◌}
 use Rattle.std.specs.Bool.{beq}
 use Rattle.std.proofs.Math.Option.{Option, none, some}
 use Rattle.image.specs.Ty.{USE_REF, REF_VALUE, Ty, var, object, phi, Tys, nil, cons}
@@ -8,7 +8,7 @@ use Rattle.unifier_definition.specs.Equal.{type_equals, try_union_types}
 use Rattle.unifier_definition.specs.Log.{Log, lookup, insert, mentions}
 use Rattle.unifier_definition.specs.Outcome.{Outcome, done, refused, empty_phi, cycle, out_of_steps, and_then}
 use Rattle.unifier_definition.specs.Property.{Access, Registry, Found, nothing, found, resolve_property_type, is_ref_access}
-use Rattle.unifier_definition.specs.Resolve.{get, occurs_check, Resolved, try_resolve_type}
+use Rattle.unifier_definition.specs.Resolve.{get, occurs_check, try_resolve_type}
 
 -- a call of `unify` or of `bind_variable_to`
 abbrev pub Call : Type 0

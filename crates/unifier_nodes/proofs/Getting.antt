@@ -7,7 +7,7 @@ use native.Mathlib.Omega.{arith}
 use lib.ListN.{length}
 use Rattle.image.specs.Ty.{Ty, var, prim, poly, method, object, func, phi, Tys, count_of}
 use Rattle.unifier_definition.specs.Log.{Log, lookup}
-use Rattle.unifier_definition.specs.Outcome.{Outcome, done, refused, out_of_steps, number_of, and_then}
+use Rattle.unifier_definition.specs.Outcome.{Outcome, done, out_of_steps, number_of, and_then}
 use Rattle.unifier_definition.specs.Resolve.{get_body, get}
 use Rattle.unifier_nodes.specs.Work.{at, Rep, Reps, reps_nil, reps_cons, rep_func, rep_phi, Bound, unbound, bound, Good, Room, Frame, Paid}
 use Rattle.unifier_nodes.specs.Walks.{Stands, ReadsNode, Known, KnownAll, Refuses, RoomFor, MadeFunction, MadePhi}

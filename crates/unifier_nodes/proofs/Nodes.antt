@@ -2,7 +2,6 @@
 use mathlib.Core.Path.{◌≡◌, refl, sym, ap, ◌∙◌, subst}
 use mathlib.Core.Bool.{Bool, true, false}
 use mathlib.Core.List.{List}
-use mathlib.Core.Option.{Option, none, some}
 use Prim.Native.Nat.{ℕ, ◌+◌, ◌*◌, ◌^◌, ◌≤◌, ◌<◌}
 use native.Mathlib.Omega.{arith}
 use lib.ListN.{length}
@@ -10,12 +9,11 @@ use borrow.Author.Tests.{eq-eqb, ne_eqb}
 use Rattle.image.specs.declared.Table.TheVariants.{Types}
 use Rattle.image.specs.Image.{count, cell}
 use Rattle.image.specs.Laid.{Laid, InTable}
-use Rattle.image.specs.Ty.{Ty, var, prim, poly, method, object, func, phi, Tys, cons, count_of, function_kind}
+use Rattle.image.specs.Ty.{Ty, var, prim, poly, method, object, func, phi, Tys, count_of, function_kind}
 use Rattle.image.specs.declared.TypeId.{TypeId}
-use Rattle.unifier_nodes.specs.Work.{at, Leaf, leaf_prim, leaf_poly, leaf_method, leaf_object, Rep, rep_var, rep_leaf, rep_func, rep_phi, Reps, reps_nil, reps_cons, Bound, unbound, bound}
+use Rattle.unifier_nodes.specs.Work.{at, Leaf, leaf_prim, leaf_poly, leaf_method, leaf_object, Rep, rep_var, rep_leaf, rep_func, rep_phi, Reps}
 use Rattle.unifier_nodes.specs.Walks.{Stands, Shows, ReadsNode, TellsKind, type_node, TypePlaced, TypesLaid}
 use Rattle.unifier_definition.specs.Cases.{type_kind}
-use Rattle.unifier_nodes.specs.declared.node.Node.{Node}
 use Rattle.unifier_nodes.specs.declared.node.Node.TheVariants.{Var, Primitive, Poly, ObjectMethod, Object, Function, Phi}
 use Rattle.unifier_nodes.proofs.Frames.{rep_low}
 

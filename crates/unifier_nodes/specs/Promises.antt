@@ -1,13 +1,13 @@
 -- What the unifier's functions promise, here and in the crates above, as one record each. Assumes nothing.
-use Rattle.std.specs.Prelude.{ℕ, zero, suc, ◌+◌, ◌*◌, ◌≤◌, ◌<◌, ◌≡◌, Bool, true, false, List, length}
+use Rattle.std.specs.Prelude.{ℕ, ◌+◌, ◌*◌, ◌≤◌, ◌<◌, ◌≡◌, Bool, true, false, List, length}
 use Rattle.std.proofs.Math.Option.{Option, none, some}
-use Rattle.image.specs.Ty.{Ty, var, Tys, cons, count_of, variables_all}
+use Rattle.image.specs.Ty.{Ty, Tys, count_of, variables_all}
 use Rattle.image.specs.Nesting.{member}
 use Rattle.unifier_definition.specs.Equal.{type_equals, has_shape, union_with, try_union_types}
-use Rattle.unifier_definition.specs.Log.{Log, lookup, mentions}
+use Rattle.unifier_definition.specs.Log.{Log, mentions}
 use Rattle.unifier_definition.specs.Outcome.{Outcome, done, refused, out_of_steps}
 use Rattle.unifier_definition.specs.Resolve.{get, get_operands, occurs_check, occurs_in_operands, Resolved, try_resolve_type, resolve_operands}
-use Rattle.unifier_definition.specs.Unify.{candidate_type, bind_checked, bind_resolved, bind_phi, bind_variable_to, unify}
+use Rattle.unifier_definition.specs.Unify.{unify}
 use Rattle.unifier_nodes.specs.Work.{Rep, Reps, Good, Frame, Paid}
 use Rattle.unifier_nodes.specs.Walks.{TellsKind, Refuses, Gets, ResolvesTo, Unifies}
 use Rattle.unifier_nodes.specs.declared.node.Candidate.{Candidate}

@@ -1,15 +1,14 @@
 -- The contracts of the functions over nodes: what each asks of the work words, and what its answer means. Assumes nothing.
-use Rattle.std.specs.Prelude.{ℕ, zero, suc, ◌+◌, ◌*◌, ◌^◌, ◌≤◌, ◌<◌, ◌≡◌, Bool, true, false, List, length, set, eqb}
-use Rattle.std.proofs.Math.Option.{Option, none, some}
+use Rattle.std.specs.Prelude.{ℕ, ◌+◌, ◌*◌, ◌^◌, ◌≤◌, ◌<◌, ◌≡◌, Bool, true, false, List, length, set, eqb}
 use Rattle.image.specs.declared.Table.TheVariants.{Types}
 use Rattle.image.specs.Image.{count, cell, type_at}
 use Rattle.image.specs.Laid.{Laid}
-use Rattle.image.specs.Ty.{Ty, var, prim, poly, method, object, func, phi, Tys, cons, count_of, function_kind}
+use Rattle.image.specs.Ty.{Ty, var, prim, poly, method, object, func, phi, Tys, count_of, function_kind}
 use Rattle.unifier_definition.specs.Cases.{type_kind}
 use Rattle.unifier_definition.specs.Log.{Log}
 use Rattle.unifier_definition.specs.Outcome.{Outcome, done, refused, Refusal, number_of}
 use Rattle.unifier_definition.specs.Resolve.{Resolved}
-use Rattle.unifier_nodes.specs.Work.{at, Rep, Reps, Good, Frame, Paid}
+use Rattle.unifier_nodes.specs.Work.{at, Rep, Reps, Good}
 use Rattle.unifier_nodes.specs.declared.node.Node.{Node}
 use Rattle.unifier_nodes.specs.declared.node.Node.TheVariants.{Var, Primitive, Poly, ObjectMethod, Object, Function, Phi}
 use Rattle.unifier_nodes.specs.declared.state.Got.{Got}

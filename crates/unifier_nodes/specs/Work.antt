@@ -1,7 +1,7 @@
 -- What the work words stand for: types as nodes, and the substitution as bindings by slot. Assumes nothing.
 -- A node number is an index into the work words. Below `lo` it is the Var of the slot of that number, and the word there is the
 -- slot's binding: 0, or a node number and 1. From `lo` on a node is three words: kind, a, b.
-use Rattle.std.specs.Prelude.{ℕ, zero, suc, ◌+◌, ◌*◌, ◌^◌, ◌≤◌, ◌<◌, ◌≡◌, Bool, List, length, get_or}
+use Rattle.std.specs.Prelude.{ℕ, ◌+◌, ◌*◌, ◌^◌, ◌≤◌, ◌<◌, ◌≡◌, Bool, List, length, get_or}
 use Rattle.std.proofs.Math.Option.{Option, none, some}
 use Rattle.image.specs.Ty.{Ty, var, prim, poly, method, object, func, phi, Tys, nil, cons, count_of, function_kind}
 use Rattle.unifier_definition.specs.Log.{Log, lookup}

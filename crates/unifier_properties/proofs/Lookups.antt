@@ -12,9 +12,9 @@ use lib.Dec.{ltb}
 use borrow.Author.Tests.{eq-eqb, ne_eqb, ltb-true}
 use Rattle.names.specs.Names.{same, starts_with, use_bytes, is_hook_name}
 use Rattle.names.specs.Digits.{decimal, digits, Written}
-use Rattle.image.specs.Ty.{NONE, Ty}
+use Rattle.image.specs.Ty.{NONE}
 use Rattle.image.specs.declared.Table.{Table}
-use Rattle.image.specs.declared.Table.TheVariants.{Names, Types, Shapes, Properties}
+use Rattle.image.specs.declared.Table.TheVariants.{Names, Shapes, Properties}
 use Rattle.image.specs.Image.{count, cell, word, name_at, Property, property_at, properties_from, shape_at}
 use Rattle.image.specs.Laid.{InTable}
 use Rattle.image.specs.Program.{tabulate, tabulate_from}

@@ -4,12 +4,10 @@ use mathlib.Core.Path.{◌≡◌}
 use mathlib.Core.Bool.{true}
 use mathlib.Core.List.{List}
 use lib.ListN.{length}
-use lib.Dec.{eqb, ltb}
 use borrow.Author.Tests.{ltb-true, ne_eqb}
 use Rattle.image.specs.Ty.{NONE}
 use Rattle.image.specs.declared.Table.{Table}
 use Rattle.image.specs.Image.{count}
-use Rattle.image.specs.Laid.{Laid}
 use Rattle.image.specs.Check.{in_table_or_none}
 use Rattle.image.proofs.Checked.{laid, names_inside, property_type, hook_sound, shape_inside}
 use Rattle.image.proofs.CheckPassed.{CheckedImage}

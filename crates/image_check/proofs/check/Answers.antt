@@ -1,5 +1,3 @@
-use native.Mathlib.Omega.{arith}
-use borrow.Author.Rules.{rules}
 use borrow.Author.Tests.{le-leb, lt-leb}
 use Rattle.image.specs.Image.{header_words}
 use Rattle.image.specs.Check.{image_fits, names_fit, budget_fits, work_fits, unless, check}

@@ -1,6 +1,4 @@
 use mathlib.Core.Path.{sym, ◌∙◌}
-use borrow.Author.Rules.{rules}
-use borrow.Author.Tests.{not-true, not-false}
 use Rattle.image_check.proofs.Answers.{shared, unshared}
 use Rattle.image_check.proofs.check_bodies.Goals as goal
 

@@ -1,10 +1,8 @@
 use mathlib.Core.Path.{◌≡◌, sym, ◌∙◌}
 use mathlib.Core.Bool.{true}
-use borrow.Author.Rules.{rules}
-use borrow.Author.Tests.{not-true, not-false}
 use lib.ListN.{length}
 use Rattle.image.specs.Laid.{Laid}
-use Rattle.image.specs.Check.{header_sound, references_sound, types_sound, shapes_sound, unless, check_tables}
+use Rattle.image.specs.Check.{header_sound, references_sound, types_sound, unless, check_tables}
 use Rattle.image.proofs.Checked.{laid, names_inside, bodies_inside}
 use Rattle.image_check.proofs.check_tables.Goals as goal
 use Rattle.image_check.proofs.check_tables.Goals.{Else-not-header_sound, Else-not-references_sound, Else-not-types_sound}

@@ -1,4 +1,3 @@
-use borrow.Author.Rules.{rules}
 use native.Mathlib.Omega.{arith}
 use Rattle.image.specs.Check.{header_sound}
 use Rattle.image.specs.Image.{word, version, most_options, count}

@@ -1,4 +1,3 @@
-use borrow.Author.Rules.{rules}
 use Rattle.image_tables.proofs.identifier_sound.Goals as goal
 
 pub returns : goal.returns

@@ -1,4 +1,3 @@
-use borrow.Author.Rules.{rules}
 use Rattle.image.specs.Check.{in_table}
 use Rattle.image_tables.proofs.in_table.Goals as goal
 

@@ -1,4 +1,3 @@
-use borrow.Author.Rules.{rules}
 use Rattle.image.specs.Check.{in_table_or_none}
 use borrow.Author.Tests.{eq-eqb, ne_eqb}
 use Rattle.image_tables.proofs.in_table_or_none.Goals as goal

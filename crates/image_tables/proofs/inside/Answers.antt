@@ -1,4 +1,3 @@
-use borrow.Author.Rules.{rules}
 use Rattle.image.specs.Check.{inside}
 use mathlib.Core.Path.{refl}
 use Rattle.image_tables.proofs.inside.Goals as goal

@@ -1,4 +1,3 @@
-use borrow.Author.Rules.{rules}
 use Rattle.image_tables.proofs.property_sound.Goals as goal
 
 pub returns : goal.returns

@@ -1,4 +1,3 @@
-use borrow.Author.Rules.{rules}
 use Rattle.image.specs.Check.{references_sound}
 use Rattle.image.proofs.Tests.{join}
 use Rattle.image_tables.proofs.references_sound.Goals as goal

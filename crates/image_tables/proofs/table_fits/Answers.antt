@@ -1,4 +1,3 @@
-use borrow.Author.Rules.{rules}
 use native.Mathlib.Omega.{arith}
 use Rattle.image.specs.Check.{inside, table_fits}
 use Rattle.image.specs.Image.{header_words}

@@ -1,10 +1,7 @@
-use borrow.Author.Rules.{rules}
 use native.Mathlib.Omega.{arith}
-use Prim.Native.Nat.{◌-◌}
 use mathlib.Core.Path.{sym, ◌∙◌}
-use borrow.Author.Tests.{not-true, not-false}
-use Rattle.image.specs.Check.{each, reference_sound, table_sound}
-use Rattle.image.proofs.Passed.{Passed, passed_start, passed_turn, passed_fails, passed_end}
+use Rattle.image.specs.Check.{each, table_sound}
+use Rattle.image.proofs.Passed.{passed_start, passed_turn, passed_fails, passed_end}
 use Rattle.image.proofs.Rows.{row_width}
 use Rattle.image_tables.proofs.table_sound.Goals as goal
 

@@ -1,4 +1,3 @@
-use borrow.Author.Rules.{rules}
 use Rattle.image.specs.Check.{tables_fit}
 use Rattle.image.proofs.Tests.{join}
 use Rattle.image_tables.proofs.tables_fit.Goals as goal

@@ -1,4 +1,3 @@
-use borrow.Author.Rules.{rules}
 use Rattle.unifier_counts.specs.Given.{counted_by}
 use Rattle.unifier_counts.proofs.counted.Goals as goal
 

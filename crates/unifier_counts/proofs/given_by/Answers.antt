@@ -1,4 +1,3 @@
-use borrow.Author.Rules.{rules}
 use Rattle.unifier_counts.specs.Given.{given_by_answer}
 use Rattle.unifier_counts.proofs.given_by.Goals as goal
 

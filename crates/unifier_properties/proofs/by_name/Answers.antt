@@ -1,5 +1,4 @@
 use mathlib.Core.Path.{◌∙◌}
-use borrow.Author.Rules.{rules}
 use Rattle.unifier_properties.proofs.Lookups.{name_exact, name_star, name_hook}
 use Rattle.unifier_properties.proofs.by_name.Goals as goal
 

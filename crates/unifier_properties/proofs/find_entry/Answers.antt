@@ -1,10 +1,8 @@
-use Prim.Native.Nat.{◌+◌, ◌-◌, ◌≤◌}
-use mathlib.Core.Path.{◌≡◌, ◌∙◌}
+use mathlib.Core.Path.{◌∙◌}
 use native.Mathlib.Omega.{arith}
 use native.Mathlib.Nat.{add-sub_cancel_left}
 use borrow.Author.Rules.{rules}
-use Rattle.image.specs.Image.{properties_from, property_at}
-use Rattle.unifier_definition.specs.Property.{entry}
+use Rattle.image.specs.Image.{property_at}
 use Rattle.unifier_properties.specs.Lookup.{entry_number}
 use Rattle.unifier_properties.proofs.Lookups.{rows_few, row_inside, row_name, entry_found, entry_later, entry_none}
 use Rattle.unifier_properties.proofs.find_entry.Goals as goal

@@ -1,13 +1,8 @@
 -- The loop's invariant: the entry is the one among the rows that are left.
 use Prim.Native.Nat.{◌+◌, ◌-◌, ◌≤◌}
-use mathlib.Core.Path.{◌≡◌, ◌∙◌}
-use native.Mathlib.Omega.{arith}
-use native.Mathlib.Nat.{add-sub_cancel_left}
-use borrow.Author.Rules.{rules}
-use Rattle.image.specs.Image.{properties_from, property_at}
+use mathlib.Core.Path.{◌≡◌}
+use Rattle.image.specs.Image.{properties_from}
 use Rattle.unifier_definition.specs.Property.{entry}
-use Rattle.unifier_properties.specs.Lookup.{entry_number}
-use Rattle.unifier_properties.proofs.Lookups.{rows_few, row_inside, row_name, entry_found, entry_later, entry_none}
 use Rattle.unifier_properties.proofs.find_entry.Given as goal
 
 abbrev pub invariant-loop-p : goal.invariant-loop-p

@@ -1,6 +1,4 @@
 use mathlib.Core.Path.{sym, ◌∙◌}
-use borrow.Author.Rules.{rules}
-use borrow.Author.Tests.{not-true, not-false}
 use Rattle.unifier_properties.proofs.Lookups.{no_hook_name, no_hook_type, hook_type_found}
 use Rattle.unifier_properties.proofs.hook_by_name.Goals as goal
 

@@ -1,4 +1,3 @@
-use borrow.Author.Rules.{rules}
 use Rattle.unifier_properties.specs.Lookup.{number_by_hook}
 use Rattle.unifier_properties.proofs.Lookups.{names_string, names_number, names_computed, key_named, no_hook_position}
 use Rattle.unifier_properties.proofs.hook_rule.Goals as goal

@@ -1,5 +1,4 @@
 use mathlib.Core.Path.{sym}
-use borrow.Author.Rules.{rules}
 use lib.Seq.{length-take-le}
 use Rattle.unifier_properties.specs.Lookup.{number_on_registered}
 use Rattle.unifier_properties.proofs.Lookups.{key_named, names_string, names_position, names_number, names_computed}

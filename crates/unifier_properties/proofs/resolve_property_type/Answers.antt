@@ -1,6 +1,5 @@
 use mathlib.Core.Path.{◌∙◌}
 use native.Mathlib.Omega.{arith}
-use borrow.Author.Rules.{rules}
 use Rattle.unifier_properties.proofs.Lookups.{shape_word, shape_rows, lookup_unshaped, lookup_past, lookup_absent, lookup_registered}
 use Rattle.unifier_properties.proofs.resolve_property_type.Goals as goal
 

@@ -1,4 +1,3 @@
-use borrow.Author.Rules.{rules}
 use Rattle.unifier_properties.proofs.Lookups.{gives_shape}
 use Rattle.unifier_properties.proofs.shape_of.Goals as goal
 

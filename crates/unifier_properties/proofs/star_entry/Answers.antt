@@ -1,5 +1,4 @@
 use mathlib.Core.Path.{sym}
-use borrow.Author.Rules.{rules}
 use Rattle.unifier_definition.specs.Property.{star}
 use Rattle.unifier_properties.specs.Lookup.{answer}
 use Rattle.unifier_properties.proofs.Lookups.{entry_is, entry_missing}

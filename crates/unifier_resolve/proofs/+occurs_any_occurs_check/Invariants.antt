@@ -1,8 +1,5 @@
-use borrow.Author.Rules.{rules}
-use native.Mathlib.Omega.{arith}
-use Prim.Native.Nat.{ℕ, ◌<◌, ◌+◌, ◌*◌, ◌-◌}
-use Rattle.unifier_nodes.proofs.Getting.{read_as, known_stands, known_slot, known_bound, known_func, known_phi}
-use Rattle.unifier_resolve.proofs.Occurring.{readable_known, known_readable, known_readable_all, checks_none, checks_plain, checks_same, checks_free, checks_bound, checks_func, checks_phi, checks_as, Trying, trying_none, trying_ends, trying_more, trying_readable, trying_word, trying_done}
+use Prim.Native.Nat.{◌+◌, ◌*◌, ◌-◌}
+use Rattle.unifier_resolve.proofs.Occurring.{Trying}
 use Rattle.unifier_resolve.proofs.+occurs_any_occurs_check.Given as goal
 
 abbrev pub decreases-occurs_any : goal.decreases-occurs_any

@@ -1,12 +1,10 @@
-use mathlib.Core.Logic.{⊎_elim}
 use mathlib.Core.Path.{refl, ◌∙◌}
 use native.Mathlib.Omega.{arith}
-use Prim.Native.Nat.{ℕ, ◌<◌, ◌+◌, ◌*◌, ◌-◌}
 use lib.ListN.{length-set}
 use Rattle.unifier_nodes.proofs.Frames.{room_left}
 use Rattle.unifier_nodes.proofs.Getting.{read_as, room_fits, room_charged, known_stands, known_func, known_phi}
 use Rattle.unifier_resolve.proofs.Rewriting.{rewrites_none, rewrites_plain, rewrites_var, rewrites_func, rewrites_phi, got_refused, got_resolved, variable_kept, variable_refused, variable_bound, known_got, known_low, stands_beside, resolved_low, room_resolved, room_rewritten}
-use Rattle.unifier_resolve.proofs.RewriteOperands.{Rewriting, rewriting_none, rewriting_skipped, rewriting_refused, rewriting_more, rewriting_done, rewriting_known, rewriting_word, rewriting_room}
+use Rattle.unifier_resolve.proofs.RewriteOperands.{rewriting_none, rewriting_skipped, rewriting_refused, rewriting_more, rewriting_done, rewriting_known, rewriting_word, rewriting_room}
 use Rattle.unifier_resolve.proofs.+resolve_all_resolve_got_resolve_variable_try_resolve_type.Goals as goal
 use Rattle.unifier_resolve.proofs.+resolve_all_resolve_got_resolve_variable_try_resolve_type.Goals.{resolve_all-else-n-v, resolve_all-then-n-v+else-refused-ne0}
 
@@ -44,7 +42,7 @@ resolve_all-overflow_add-made t c =
 pub resolve_all-loop-k-preserved : goal.resolve_all-loop-k-preserved
 resolve_all-loop-k-preserved t c =
     elim c.if-n-v.branch [
-      resolve_all-then-n-v+else-refused-ne0 y ↦ rw (y.w-is, y.left-is, y.top-is, y.made-is) (rewriting_more c.args.st c.loop-k.invariant c.loop-k-test.true y.if-n-v.true y.try_resolve_type-g.ensures y.if-refused-ne0.false c.requires.room)
+      | resolve_all-then-n-v+else-refused-ne0 y ↦ rw (y.w-is, y.left-is, y.top-is, y.made-is) (rewriting_more c.args.st c.loop-k.invariant c.loop-k-test.true y.if-n-v.true y.try_resolve_type-g.ensures y.if-refused-ne0.false c.requires.room)
       | resolve_all-else-n-v y ↦ rw (y.w-is, y.left-is, y.top-is, y.made-is) (rewriting_skipped c.args.st c.loop-k.invariant c.loop-k-test.true c.requires.v_lt_lo y.if-n-v.false)
     ]
 

@@ -1,12 +1,5 @@
-use mathlib.Core.Logic.{⊎_elim}
-use mathlib.Core.Path.{refl, ◌∙◌}
-use native.Mathlib.Omega.{arith}
-use Prim.Native.Nat.{ℕ, ◌<◌, ◌+◌, ◌*◌, ◌-◌}
-use lib.ListN.{length-set}
-use Rattle.unifier_nodes.proofs.Frames.{room_left}
-use Rattle.unifier_nodes.proofs.Getting.{read_as, room_fits, room_charged, known_stands, known_func, known_phi}
-use Rattle.unifier_resolve.proofs.Rewriting.{rewrites_none, rewrites_plain, rewrites_var, rewrites_func, rewrites_phi, got_refused, got_resolved, variable_kept, variable_refused, variable_bound, known_got, known_low, stands_beside, resolved_low, room_resolved, room_rewritten}
-use Rattle.unifier_resolve.proofs.RewriteOperands.{Rewriting, rewriting_none, rewriting_skipped, rewriting_refused, rewriting_more, rewriting_done, rewriting_known, rewriting_word, rewriting_room}
+use Prim.Native.Nat.{◌+◌, ◌*◌, ◌-◌}
+use Rattle.unifier_resolve.proofs.RewriteOperands.{Rewriting}
 use Rattle.unifier_resolve.proofs.+resolve_all_resolve_got_resolve_variable_try_resolve_type.Given as goal
 
 abbrev pub decreases-resolve_all : goal.decreases-resolve_all

@@ -1,8 +1,5 @@
-use borrow.Author.Rules.{rules}
 use native.Mathlib.Omega.{arith}
-use Prim.Native.Nat.{◌≤◌, ◌-◌}
-use mathlib.Core.Path.{◌≡◌, subst}
-use Rattle.unifier_nodes.specs.Walks.{Copied}
+use mathlib.Core.Path.{◌≡◌}
 use Rattle.unifier_nodes.proofs.Words.{copied_none, copied_more}
 use Rattle.unifier_resolve.proofs.copy.Goals as goal
 

@@ -1,9 +1,5 @@
-use borrow.Author.Rules.{rules}
-use native.Mathlib.Omega.{arith}
 use Prim.Native.Nat.{◌≤◌, ◌-◌}
-use mathlib.Core.Path.{◌≡◌, subst}
 use Rattle.unifier_nodes.specs.Walks.{Copied}
-use Rattle.unifier_nodes.proofs.Words.{copied_none, copied_more}
 use Rattle.unifier_resolve.proofs.copy.Given as goal
 
 abbrev pub invariant-loop-i : goal.invariant-loop-i

@@ -3,7 +3,6 @@ use Rattle.image_instructions.proofs.Cursor.{ends_broken, ends_at}
 use Rattle.image_instructions.proofs.Noting.{notes_broken, notes_at}
 use Rattle.image_bodies.proofs.BlockReaders.{block_none, block_phis_out, block_instructions_none, block_instructions_out, block_in}
 use native.Mathlib.Omega.{arith}
-use borrow.Author.Rules.{rules}
 use Rattle.image_bodies.proofs.body.block.Goals as goal
 
 pub returns-then-at-end : goal.returns-then-at-end

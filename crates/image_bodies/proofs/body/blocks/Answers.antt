@@ -1,12 +1,9 @@
-use Prim.Native.Nat.{◌-◌}
 use mathlib.Core.Path.{refl}
-use Rattle.image.specs.Body.{block}
 use Rattle.image.specs.Nesting.{named_by_blocks}
 use Rattle.image_instructions.specs.Marks.{unread}
 use Rattle.image_bodies.proofs.BlockReaders.{blocks_row}
 use Rattle.image_instructions.proofs.Cursor.{reading_fails}
-use Rattle.image_instructions.proofs.Noting.{notes_broken, notes_at, NotedMany, noted_start, noted_turn, noted_end}
-use borrow.Author.Rules.{rules}
+use Rattle.image_instructions.proofs.Noting.{notes_broken, notes_at, noted_start, noted_turn, noted_end}
 use native.Mathlib.Omega.{arith}
 use Rattle.image_bodies.proofs.body.blocks.Goals as goal
 

@@ -2,7 +2,6 @@ use Rattle.image_instructions.specs.Marks.{unread}
 use Rattle.image_instructions.proofs.Cursor.{ends_broken, ends_at}
 use Rattle.image_bodies.proofs.BlockReaders.{body_short, body_type_out, body_returns_out, body_params_out, body_context_out, body_blocks_none, body_in}
 use native.Mathlib.Omega.{arith}
-use borrow.Author.Rules.{rules}
 use Rattle.image_bodies.proofs.body.body.Goals as goal
 
 pub returns-then-end-at-lt3 : goal.returns-then-end-at-lt3

@@ -1,8 +1,5 @@
-use Prim.Native.Nat.{◌-◌}
-use borrow.Author.Tests.{not-true, not-false}
 use Rattle.image.specs.Body.{bodies}
-use Rattle.image_bodies.proofs.Nested.{functions_limited, is_unsound, is_sound, BodiesNoted, bodies_start, bodies_turn, bodies_broken, bodies_misnested, bodies_sound}
-use borrow.Author.Rules.{rules}
+use Rattle.image_bodies.proofs.Nested.{functions_limited, is_unsound, is_sound, bodies_start, bodies_turn, bodies_broken, bodies_misnested, bodies_sound}
 use native.Mathlib.Omega.{arith}
 use Rattle.image_bodies.proofs.nesting.bodies_marked.Goals as goal
 

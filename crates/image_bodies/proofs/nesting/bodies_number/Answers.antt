@@ -1,4 +1,3 @@
-use borrow.Author.Rules.{rules}
 use Rattle.image_bodies.specs.Answer.{bodies_number}
 use Rattle.image_bodies.proofs.nesting.bodies_number.Goals as goal
 

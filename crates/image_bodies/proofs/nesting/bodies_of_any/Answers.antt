@@ -1,6 +1,5 @@
 use Rattle.image_bodies.proofs.Nested.{unmarked, functions_few}
 use native.Mathlib.Omega.{arith}
-use borrow.Author.Rules.{rules}
 use Rattle.image_bodies.proofs.nesting.bodies_of_any.Goals as goal
 
 pub bodies_marked-requires : goal.bodies_marked-requires

@@ -1,6 +1,5 @@
 use Rattle.image_bodies.proofs.Nested.{unmarked}
 use native.Mathlib.Omega.{arith}
-use borrow.Author.Rules.{rules}
 use Rattle.image_bodies.proofs.nesting.bodies_of_few.Goals as goal
 
 pub bodies_marked-requires : goal.bodies_marked-requires

@@ -2,7 +2,6 @@ use Rattle.image_instructions.specs.Marks.{unsound}
 use Rattle.image_instructions.proofs.Noting.{notes_broken, notes_at}
 use Rattle.image_bodies.proofs.Nested.{functions_limited, body_unread, body_end}
 use native.Mathlib.Omega.{arith}
-use borrow.Author.Rules.{rules}
 use Rattle.image_bodies.proofs.nesting.body_whole.Goals as goal
 
 pub body-requires : goal.body-requires

@@ -1,10 +1,7 @@
-use Prim.Native.Nat.{ℕ, ◌-◌}
 use native.Mathlib.Omega.{arith}
 use mathlib.Core.Path.{sym}
-use mathlib.Core.Logic.{⊎_elim}
-use borrow.Author.Rules.{rules}
-use Rattle.image.specs.Check.{apart, apart_from_earlier}
-use Rattle.image.proofs.Passed.{Passed, passed_start, passed_turn, passed_fails, passed_end}
+use Rattle.image.specs.Check.{apart_from_earlier}
+use Rattle.image.proofs.Passed.{passed_start, passed_turn, passed_fails, passed_end}
 use Rattle.image_bodies.proofs.Spans.{apart_after, apart_before, apart_not, end_small, after_all, before_all}
 use Rattle.image_bodies.proofs.overlap.apart_from_earlier.Goals as goal
 use Rattle.image_bodies.proofs.overlap.apart_from_earlier.Goals.{else-other-end, then-other-end+else-start-other}

@@ -1,15 +1,9 @@
 use Prim.Native.Nat.{◌-◌}
-use native.Mathlib.Omega.{arith}
-use mathlib.Core.Path.{sym, ◌∙◌}
-use mathlib.Core.Logic.{⊎_elim}
-use borrow.Author.Tests.{not-true, not-false}
-use borrow.Author.Rules.{rules}
 use Rattle.image.specs.declared.Table.TheVariants.{Functions}
 use Rattle.image.specs.Image.{count}
-use Rattle.image.specs.Check.{each, apart_from_earlier}
+use Rattle.image.specs.Check.{apart_from_earlier}
 use Rattle.image_bodies.specs.Span.{Span}
-use Rattle.image.proofs.Passed.{Passed, passed_start, passed_turn, passed_fails, passed_end}
-use Rattle.image_bodies.proofs.Spans.{end_small, span_start, span_turn}
+use Rattle.image.proofs.Passed.{Passed}
 use Rattle.image_bodies.proofs.overlap.bodies_apart.Given as goal
 
 abbrev pub invariant-loop-g : goal.invariant-loop-g

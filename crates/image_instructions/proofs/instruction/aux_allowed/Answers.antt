@@ -2,7 +2,6 @@ use Rattle.image.specs.Body.{aux_fits}
 use Rattle.image_instructions.specs.Coded.{aux_of}
 use Rattle.image_instructions.proofs.Coded.{aux_function}
 use native.Mathlib.Omega.{arith}
-use borrow.Author.Rules.{rules}
 use Rattle.image_instructions.proofs.instruction.aux_allowed.Goals as goal
 
 pub returns-in-0 : goal.returns-in-0

@@ -1,5 +1,4 @@
 use Rattle.image_instructions.proofs.Coded.{codes, coded}
-use borrow.Author.Rules.{rules}
 use Rattle.image_instructions.proofs.instruction.form.Goals as goal
 
 pub returns : goal.returns

@@ -1,9 +1,7 @@
 use mathlib.Core.Path.{sym, ◌∙◌}
-use borrow.Author.Tests.{not-true, not-false}
 use Rattle.image_instructions.specs.Marks.{unread}
 use Rattle.image_instructions.proofs.Instructions.{instruction_short, instruction_kind_out, instruction_lvalue_out, instruction_aux_out, instruction_plain, instruction_naming, function_below}
 use native.Mathlib.Omega.{arith}
-use borrow.Author.Rules.{rules}
 use Rattle.image_instructions.proofs.instruction.instruction.Goals as goal
 
 pub returns-then-end-at-lt4 : goal.returns-then-end-at-lt4

@@ -1,12 +1,9 @@
-use Prim.Native.Nat.{◌-◌}
 use mathlib.Core.Path.{refl}
-use Rattle.image.specs.Body.{instruction}
 use Rattle.image.specs.Nesting.{named_by_instructions}
 use Rattle.image_instructions.proofs.Instructions.{instructions_row}
-use Rattle.image_instructions.proofs.Noting.{notes_broken, notes_at, NotedMany, noted_start, noted_turn, noted_end}
+use Rattle.image_instructions.proofs.Noting.{notes_broken, notes_at, noted_start, noted_turn, noted_end}
 use Rattle.image_instructions.specs.Marks.{unread}
 use Rattle.image_instructions.proofs.Cursor.{reading_fails}
-use borrow.Author.Rules.{rules}
 use native.Mathlib.Omega.{arith}
 use Rattle.image_instructions.proofs.instruction.instructions.Goals as goal
 

@@ -1,9 +1,7 @@
 use mathlib.Core.Path.{sym, ◌∙◌}
-use borrow.Author.Tests.{not-true, not-false}
 use Rattle.image_instructions.specs.Cursor.{broken, ended}
 use Rattle.image_instructions.proofs.Items.{item_short, item_tag_out, item_identifier_out, item_key_out, item_in}
 use native.Mathlib.Omega.{arith}
-use borrow.Author.Rules.{rules}
 use Rattle.image_instructions.proofs.instruction.item.Goals as goal
 
 pub returns-then-end-at-lt3 : goal.returns-then-end-at-lt3

@@ -1,9 +1,5 @@
-use Prim.Native.Nat.{◌-◌}
-use Rattle.image.specs.Body.{item}
-use Rattle.image_instructions.specs.Coded.{tags_of}
 use Rattle.image_instructions.specs.Cursor.{broken, ended}
-use Rattle.image_instructions.proofs.Cursor.{ends_broken, ends_at, Reading, reading_start, reading_turn, reading_fails, reading_end}
-use borrow.Author.Rules.{rules}
+use Rattle.image_instructions.proofs.Cursor.{ends_broken, ends_at, reading_start, reading_turn, reading_fails, reading_end}
 use native.Mathlib.Omega.{arith}
 use Rattle.image_instructions.proofs.instruction.items.Goals as goal
 

@@ -1,10 +1,7 @@
 use Prim.Native.Nat.{◌-◌}
 use Rattle.image.specs.Body.{item}
 use Rattle.image_instructions.specs.Coded.{tags_of}
-use Rattle.image_instructions.specs.Cursor.{broken, ended}
-use Rattle.image_instructions.proofs.Cursor.{ends_broken, ends_at, Reading, reading_start, reading_turn, reading_fails, reading_end}
-use borrow.Author.Rules.{rules}
-use native.Mathlib.Omega.{arith}
+use Rattle.image_instructions.proofs.Cursor.{Reading}
 use Rattle.image_instructions.proofs.instruction.items.Given as goal
 
 abbrev pub invariant-loop-k : goal.invariant-loop-k

@@ -1,6 +1,5 @@
 use Rattle.image_instructions.specs.Cursor.{broken}
 use Rattle.image_instructions.proofs.Items.{pattern_out, pattern_array, pattern_object, places_out, places_in}
-use borrow.Author.Rules.{rules}
 use Rattle.image_instructions.proofs.instruction.items_by.Goals as goal
 
 pub returns-then-n-lt1 : goal.returns-then-n-lt1

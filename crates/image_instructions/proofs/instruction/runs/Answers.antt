@@ -2,7 +2,6 @@ use Rattle.image_instructions.specs.Cursor.{broken}
 use Rattle.image_instructions.proofs.Cursor.{ends_broken, ends_at}
 use Rattle.image_instructions.proofs.Items.{runs_out, runs_in}
 use native.Mathlib.Omega.{arith}
-use borrow.Author.Rules.{rules}
 use Rattle.image_instructions.proofs.instruction.runs.Goals as goal
 
 pub returns-in_default : goal.returns-in_default

@@ -2,7 +2,6 @@ use Rattle.image_instructions.specs.Coded.{tags_of}
 use Rattle.image.specs.Body.{one_of}
 use Rattle.image_instructions.proofs.Coded.{one_place, one_argument, one_element, tags_attributes}
 use native.Mathlib.Omega.{arith}
-use borrow.Author.Rules.{rules}
 use Rattle.image_instructions.proofs.instruction.tag_allowed.Goals as goal
 
 pub returns-in-0 : goal.returns-in-0

@@ -1,6 +1,5 @@
 use Rattle.image_instructions.proofs.Noting.{noting_small, noting_again, noting_first}
 use native.Mathlib.Omega.{arith}
-use borrow.Author.Rules.{rules}
 use Rattle.image_instructions.proofs.marks.note.Goals as goal
 
 pub returns-then-g-f : goal.returns-then-g-f

@@ -1,7 +1,6 @@
 use Rattle.image_instructions.specs.Cursor.{broken}
 use Rattle.image_instructions.proofs.Cursor.{counted_next, counted_none}
 use native.Mathlib.Omega.{arith}
-use borrow.Author.Rules.{rules}
 use Rattle.image_instructions.proofs.read.identifier_list.Goals as goal
 
 pub returns-then-at-end : goal.returns-then-at-end

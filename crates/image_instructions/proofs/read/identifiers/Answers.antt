@@ -1,9 +1,6 @@
 use Rattle.image_instructions.specs.Cursor.{broken, ended}
-use Prim.Native.Nat.{◌-◌}
-use Rattle.image.specs.Body.{identifier}
-use Rattle.image_instructions.proofs.Cursor.{Reading, reading_start, reading_turn, reading_fails, reading_end}
+use Rattle.image_instructions.proofs.Cursor.{reading_start, reading_turn, reading_fails, reading_end}
 use Rattle.image_instructions.proofs.Readers.{identifier_none, identifier_out, identifier_in}
-use borrow.Author.Rules.{rules}
 use native.Mathlib.Omega.{arith}
 use Rattle.image_instructions.proofs.read.identifiers.Goals as goal
 

@@ -1,10 +1,6 @@
-use Rattle.image_instructions.specs.Cursor.{broken, ended}
 use Prim.Native.Nat.{◌-◌}
 use Rattle.image.specs.Body.{param}
-use Rattle.image_instructions.proofs.Cursor.{Reading, reading_start, reading_turn, reading_fails, reading_end}
-use Rattle.image_instructions.proofs.Readers.{param_short, param_spread_out, param_out, param_in}
-use borrow.Author.Rules.{rules}
-use native.Mathlib.Omega.{arith}
+use Rattle.image_instructions.proofs.Cursor.{Reading}
 use Rattle.image_instructions.proofs.read.params.Given as goal
 
 abbrev pub invariant-loop-k : goal.invariant-loop-k

@@ -1,10 +1,6 @@
-use Rattle.image_instructions.specs.Cursor.{broken, ended}
 use Prim.Native.Nat.{◌-◌}
 use Rattle.image.specs.Body.{phi_node}
-use Rattle.image_instructions.proofs.Cursor.{ends_broken, ends_at, Reading, reading_start, reading_turn, reading_fails, reading_end}
-use Rattle.image_instructions.proofs.Readers.{phi_none, phi_place_out, phi_out, phi_in}
-use borrow.Author.Rules.{rules}
-use native.Mathlib.Omega.{arith}
+use Rattle.image_instructions.proofs.Cursor.{Reading}
 use Rattle.image_instructions.proofs.read.phis.Given as goal
 
 abbrev pub invariant-loop-k : goal.invariant-loop-k

@@ -1,8 +1,7 @@
-use mathlib.Core.Logic.{⊎_elim, inl, inr}
+use mathlib.Core.Logic.{inl, inr}
 use Rattle.image_instructions.specs.Cursor.{broken, ended}
 use Rattle.image_instructions.proofs.Readers.{terminal_short, terminal_out, terminal_second_out, terminal_in}
 use native.Mathlib.Omega.{arith}
-use borrow.Author.Rules.{rules}
 use Rattle.image_instructions.proofs.read.terminal.Goals as goal
 use Rattle.image_instructions.proofs.read.terminal.Goals.{then-t-eq-NO_RETURN, else-t-eq-NO_RETURN}
 

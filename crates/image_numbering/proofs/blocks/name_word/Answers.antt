@@ -2,7 +2,6 @@ use Rattle.image.specs.declared.Table.TheVariants.{Names}
 use Rattle.image.specs.Image.{cell}
 use Prim.Native.Nat.{ℕ}
 use mathlib.Core.Path.{ap, ◌∙◌}
-use borrow.Author.Rules.{rules}
 use Rattle.image_numbering.proofs.blocks.name_word.Goals as goal
 
 pub returns : goal.returns

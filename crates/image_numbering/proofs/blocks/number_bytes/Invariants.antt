@@ -1,11 +1,6 @@
-use mathlib.Core.Path.{refl}
-use Rattle.image_numbering.proofs.Doubling.{blocks_one}
-use Rattle.image_numbering.proofs.Filled.{filled_start, filled_turn}
 use Rattle.image_numbering.specs.Numbering.{at, Filled}
 use lib.ListN.{length}
 use Prim.Native.Nat.{◌-◌, ◌≤◌}
-use borrow.Author.Rules.{rules}
-use native.Mathlib.Omega.{arith}
 use Rattle.image_numbering.proofs.blocks.number_bytes.Given as goal
 
 abbrev pub invariant-loop-i : goal.invariant-loop-i

@@ -3,7 +3,6 @@ use mathlib.Core.Path.{sym}
 use Rattle.image_numbering.proofs.Doubling.{doubled, blocks_none, fronts_length, halves_room}
 use Rattle.image_numbering.proofs.Doubling.{doubled, blocks_none}
 use native.Mathlib.Omega.{arith}
-use borrow.Author.Rules.{rules}
 use Rattle.image_numbering.proofs.blocks.number_doubled.Goals as goal
 
 pub returns-then-total-h : goal.returns-then-total-h

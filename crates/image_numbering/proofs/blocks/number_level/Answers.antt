@@ -1,6 +1,5 @@
 use Rattle.image_numbering.proofs.Levels.{names_in, ends_doubled}
 use native.Mathlib.Omega.{arith}
-use borrow.Author.Rules.{rules}
 use Rattle.image_numbering.proofs.blocks.number_level.Goals as goal
 
 pub number_ends-requires : goal.number_ends-requires

@@ -1,10 +1,6 @@
 use Prim.Native.Nat.{◌≤◌}
 use Rattle.image_numbering.proofs.Levels.{ends_end}
-use Rattle.image_numbering.specs.Blocks.{Blocks, Ends}
 use lib.ListN.{length}
-use mathlib.Core.Path.{◌≡◌}
-use Prim.Native.Nat.{◌+◌, ◌-◌, ◌<◌}
-use borrow.Author.Rules.{rules}
 use native.Mathlib.Omega.{arith}
 use Rattle.image_numbering.proofs.blocks.number_names.Goals as goal
 

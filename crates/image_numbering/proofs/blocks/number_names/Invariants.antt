@@ -1,11 +1,7 @@
-use Prim.Native.Nat.{◌≤◌}
-use Rattle.image_numbering.proofs.Levels.{ends_end}
 use Rattle.image_numbering.specs.Blocks.{Blocks, Ends}
 use lib.ListN.{length}
 use mathlib.Core.Path.{◌≡◌}
 use Prim.Native.Nat.{◌+◌, ◌-◌, ◌<◌}
-use borrow.Author.Rules.{rules}
-use native.Mathlib.Omega.{arith}
 use Rattle.image_numbering.proofs.blocks.number_names.Given as goal
 
 abbrev pub invariant-loop-h : goal.invariant-loop-h

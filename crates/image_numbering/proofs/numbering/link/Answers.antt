@@ -1,7 +1,6 @@
 use Prim.Native.Nat.{◌-◌}
 use Rattle.image_numbering.specs.Numbering.{at}
-use Rattle.image_numbering.proofs.Linking.{Linking, linking_start, linking_turn, linking_end}
-use borrow.Author.Rules.{rules}
+use Rattle.image_numbering.proofs.Linking.{linking_start, linking_turn, linking_end}
 use native.Mathlib.Omega.{arith}
 use Rattle.image_numbering.proofs.numbering.link.Goals as goal
 

@@ -1,8 +1,4 @@
-use Prim.Native.Nat.{◌-◌}
-use Rattle.image_numbering.specs.Numbering.{at}
-use Rattle.image_numbering.proofs.Linking.{Linking, linking_start, linking_turn, linking_end}
-use borrow.Author.Rules.{rules}
-use native.Mathlib.Omega.{arith}
+use Rattle.image_numbering.proofs.Linking.{Linking}
 use Rattle.image_numbering.proofs.numbering.link.Given as goal
 
 abbrev pub invariant-loop-i : goal.invariant-loop-i

@@ -1,8 +1,5 @@
-use Prim.Native.Nat.{◌-◌}
-use lib.ListN.{length}
 use Rattle.image_numbering.specs.Numbering.{at}
-use Rattle.image_numbering.proofs.Chaining.{Chaining, chaining_start, chaining_turn, chaining_end}
-use borrow.Author.Rules.{rules}
+use Rattle.image_numbering.proofs.Chaining.{chaining_start, chaining_turn, chaining_end}
 use native.Mathlib.Omega.{arith}
 use Rattle.image_numbering.proofs.numbering.number_chain.Goals as goal
 

@@ -1,9 +1,7 @@
 use Prim.Native.Nat.{◌-◌}
 use lib.ListN.{length}
 use Rattle.image_numbering.specs.Numbering.{at}
-use Rattle.image_numbering.proofs.Chaining.{Chaining, chaining_start, chaining_turn, chaining_end}
-use borrow.Author.Rules.{rules}
-use native.Mathlib.Omega.{arith}
+use Rattle.image_numbering.proofs.Chaining.{Chaining}
 use Rattle.image_numbering.proofs.numbering.number_chain.Given as goal
 
 abbrev pub invariant-loop-c : goal.invariant-loop-c

@@ -1,8 +1,5 @@
-use Prim.Native.Nat.{◌-◌}
-use lib.ListN.{length}
 use Rattle.image_numbering.specs.Numbering.{at}
-use Rattle.image_numbering.proofs.Pairing.{Pairing, pairing_start, chain_at, pairing_skip, pairing_turn, pairing_end}
-use borrow.Author.Rules.{rules}
+use Rattle.image_numbering.proofs.Pairing.{pairing_start, chain_at, pairing_skip, pairing_turn, pairing_end}
 use native.Mathlib.Omega.{arith}
 use Rattle.image_numbering.proofs.numbering.number_chains.Goals as goal
 

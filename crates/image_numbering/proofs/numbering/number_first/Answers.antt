@@ -2,7 +2,6 @@ use Rattle.image_numbering.proofs.Pairing.{pairs_front, room_front}
 use lib.Seq.{length-take-le}
 use mathlib.Core.Path.{sym}
 use native.Mathlib.Omega.{arith}
-use borrow.Author.Rules.{rules}
 use Rattle.image_numbering.proofs.numbering.number_first.Goals as goal
 
 pub slice_bounds-number_pairs-end : goal.slice_bounds-number_pairs-end

@@ -2,7 +2,6 @@ use Rattle.image_numbering.specs.Blocks.{length_of}
 use Rattle.image_numbering.proofs.Reaching.{lengths_paired}
 use Rattle.image_numbering.proofs.Ending.{rows_few}
 use native.Mathlib.Omega.{arith}
-use borrow.Author.Rules.{rules}
 use Rattle.image_numbering.proofs.reach.number_lengths.Goals as goal
 
 pub number_first-requires : goal.number_first-requires

@@ -4,7 +4,6 @@ use Rattle.image_numbering.proofs.Reaching.{rows_numbered}
 use Rattle.image_numbering.proofs.Levels.{names_in}
 use Rattle.image_numbering.proofs.Ending.{rows_few}
 use native.Mathlib.Omega.{arith}
-use borrow.Author.Rules.{rules}
 use Rattle.image_numbering.proofs.reach.number_rows.Goals as goal
 
 pub count-n-requires : goal.count-n-requires

@@ -1,5 +1,4 @@
 use Rattle.image_numbering.proofs.Levels.{ends_zeros, zeros_long}
-use borrow.Author.Rules.{rules}
 use Rattle.image_numbering.proofs.reach.reach.Goals as goal
 
 pub reach_in-requires : goal.reach_in-requires

@@ -3,7 +3,6 @@ use Rattle.image_numbering.proofs.Ending.{rows_few}
 use mathlib.Core.Path.{sym}
 use lib.Seq.{length-take-le}
 use native.Mathlib.Omega.{arith}
-use borrow.Author.Rules.{rules}
 use Rattle.image_numbering.proofs.reach.reach_in.Goals as goal
 
 pub count-n-requires : goal.count-n-requires

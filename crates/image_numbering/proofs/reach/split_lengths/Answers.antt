@@ -2,10 +2,7 @@ use Rattle.image_numbering.proofs.Filled.{filled_start, filled_turn, filled_end}
 use mathlib.Core.Path.{ap}
 use Rattle.image_numbering.proofs.Ending.{row_in, rows_few}
 use Rattle.image_numbering.proofs.Filled.{filled_start, filled_turn}
-use Rattle.image_numbering.specs.Blocks.{length_of}
-use Rattle.image_numbering.specs.Numbering.{Filled}
-use Prim.Native.Nat.{ℕ, ◌-◌, ◌≤◌, ◌/◌, ◌%◌}
-use borrow.Author.Rules.{rules}
+use Prim.Native.Nat.{ℕ, ◌/◌, ◌%◌}
 use native.Mathlib.Omega.{arith}
 use Rattle.image_numbering.proofs.reach.split_lengths.Goals as goal
 

@@ -1,6 +1,5 @@
 use Prim.Native.Nat.{◌-◌}
-use Rattle.image_numbering.proofs.Spreading.{Spreading, spreading_start, spreading_turn}
-use borrow.Author.Rules.{rules}
+use Rattle.image_numbering.proofs.Spreading.{spreading_start, spreading_turn}
 use native.Mathlib.Omega.{arith}
 use Rattle.image_numbering.proofs.reach.spread.Goals as goal
 

@@ -1,7 +1,4 @@
-use Prim.Native.Nat.{◌-◌}
-use Rattle.image_numbering.proofs.Spreading.{Spreading, spreading_start, spreading_turn}
-use borrow.Author.Rules.{rules}
-use native.Mathlib.Omega.{arith}
+use Rattle.image_numbering.proofs.Spreading.{Spreading}
 use Rattle.image_numbering.proofs.reach.spread.Given as goal
 
 abbrev pub invariant-loop-p : goal.invariant-loop-p

@@ -1,5 +1,4 @@
 use mathlib.Core.Path.{sym, ◌∙◌}
-use borrow.Author.Rules.{rules}
 use Rattle.image_shapes.proofs.Shape.{large_types, large_shapes}
 use Rattle.image_shapes.proofs.large.in_large_arrays.Goals as goal
 

@@ -1,9 +1,8 @@
-use Rattle.image_shapes.proofs.Shape.{Walked, walked_start, walked_turn, walked_stop, walked_end, distinct_next, distinct_here, distinct_none}
-use Rattle.image.specs.Check.{among, distinct}
+use Rattle.image_shapes.proofs.Shape.{walked_start, walked_turn, walked_stop, walked_end, distinct_next, distinct_here, distinct_none}
+use Rattle.image.specs.Check.{among}
 use mathlib.Core.Path.{sym, ap, ◌∙◌}
 use mathlib.Core.List.{List}
 use Prim.Native.Nat.{ℕ, ◌+◌, ◌-◌}
-use borrow.Author.Rules.{rules}
 use native.Mathlib.Omega.{arith}
 use Rattle.image_shapes.proofs.shapes.are_distinct.Goals as goal
 

@@ -1,7 +1,5 @@
 use Rattle.image_numbering.proofs.Ending.{row_in}
 use mathlib.Core.Path.{refl}
-use Prim.Native.Nat.{◌-◌, ◌≤◌}
-use borrow.Author.Rules.{rules}
 use native.Mathlib.Omega.{arith}
 use Rattle.image_shapes.proofs.shapes.are_few.Goals as goal
 

@@ -1,8 +1,4 @@
-use Rattle.image_numbering.proofs.Ending.{row_in}
-use mathlib.Core.Path.{refl}
 use Prim.Native.Nat.{◌-◌, ◌≤◌}
-use borrow.Author.Rules.{rules}
-use native.Mathlib.Omega.{arith}
 use Rattle.image_shapes.proofs.shapes.are_few.Given as goal
 
 abbrev pub invariant-loop-k : goal.invariant-loop-k

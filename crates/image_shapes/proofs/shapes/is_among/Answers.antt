@@ -1,9 +1,6 @@
-use Rattle.image_shapes.proofs.Shape.{Walked, walked_start, walked_turn, walked_stop, walked_end, among_next, among_here, among_none}
-use Rattle.image.specs.Check.{among}
+use Rattle.image_shapes.proofs.Shape.{walked_start, walked_turn, walked_stop, walked_end, among_next, among_here, among_none}
 use Rattle.names.specs.Names.{same}
 use mathlib.Core.Path.{sym, ap, ◌∙◌}
-use Prim.Native.Nat.{◌-◌}
-use borrow.Author.Rules.{rules}
 use native.Mathlib.Omega.{arith}
 use Rattle.image_shapes.proofs.shapes.is_among.Goals as goal
 

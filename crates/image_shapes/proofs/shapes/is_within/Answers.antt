@@ -1,9 +1,7 @@
 use Rattle.image_shapes.proofs.Shape.{reach_unfit, reach_empty, reach_rows, fits_inside}
 use Rattle.image_numbering.proofs.Ending.{rows_few}
-use borrow.Author.Tests.{not-true, not-false}
 use mathlib.Core.Path.{sym, ◌∙◌}
 use native.Mathlib.Omega.{arith}
-use borrow.Author.Rules.{rules}
 use Rattle.image_shapes.proofs.shapes.is_within.Goals as goal
 
 pub returns-then-not-shape_fits : goal.returns-then-not-shape_fits

@@ -1,7 +1,6 @@
 use Rattle.image.specs.Image.{name_at}
 use mathlib.Core.Path.{ap, ◌∙◌}
 use native.Mathlib.Omega.{arith}
-use borrow.Author.Rules.{rules}
 use Rattle.image_shapes.proofs.shapes.row_name.Goals as goal
 
 pub name_bytes-requires : goal.name_bytes-requires

@@ -3,7 +3,6 @@ use lib.Dec.{eqb}
 use Prim.Native.Nat.{ℕ}
 use mathlib.Core.Path.{sym, ap, ◌∙◌}
 use native.Mathlib.Omega.{arith}
-use borrow.Author.Rules.{rules}
 use Rattle.image_shapes.proofs.shapes.shape_fits.Goals as goal
 
 pub returns-then-present-gt-PRESENT : goal.returns-then-present-gt-PRESENT

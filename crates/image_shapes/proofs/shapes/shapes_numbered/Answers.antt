@@ -2,7 +2,6 @@ use Rattle.image_shapes.proofs.Shape.{each_same, reach_is_sound}
 use Rattle.image_numbering.proofs.Levels.{zeros_long}
 use mathlib.Core.Path.{◌∙◌}
 use native.Mathlib.Omega.{arith}
-use borrow.Author.Rules.{rules}
 use Rattle.image_shapes.proofs.shapes.shapes_numbered.Goals as goal
 
 pub shapes_within-requires : goal.shapes_within-requires

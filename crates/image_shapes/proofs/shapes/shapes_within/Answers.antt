@@ -1,11 +1,7 @@
 use Rattle.image_shapes.proofs.Shape.{each_rows}
-use Rattle.image.proofs.Passed.{Passed, passed_start, passed_turn, passed_fails, passed_end}
-use Rattle.image_shapes.specs.Shapes.{reach_sound}
+use Rattle.image.proofs.Passed.{passed_start, passed_turn, passed_fails, passed_end}
 use Rattle.image.specs.declared.Table.TheVariants.{Shapes}
-use borrow.Author.Tests.{not-true, not-false}
 use mathlib.Core.Path.{sym, ◌∙◌}
-use Prim.Native.Nat.{◌-◌}
-use borrow.Author.Rules.{rules}
 use Rattle.image_shapes.proofs.shapes.shapes_within.Goals as goal
 
 pub loop-s-init : goal.loop-s-init

@@ -1,7 +1,5 @@
 use native.Mathlib.Omega.{arith}
 use mathlib.Core.Path.{sym, ◌∙◌}
-use borrow.Author.Tests.{not-true, not-false}
-use borrow.Author.Rules.{rules}
 use Rattle.image_shapes.proofs.Sizes.{function_shape, function_return, function_short, function_long}
 use Rattle.image_shapes.proofs.types.function_words.Goals as goal
 

@@ -1,9 +1,7 @@
-use Prim.Native.Nat.{◌-◌}
 use native.Mathlib.Omega.{arith}
 use mathlib.Core.Path.{sym}
-use borrow.Author.Rules.{rules}
 use Rattle.image.specs.declared.Table.TheVariants.{Lists}
-use Rattle.image_shapes.proofs.Sizes.{Operands, operands_start, operands_outside, operands_turn, operands_large, operands_long, operands_end}
+use Rattle.image_shapes.proofs.Sizes.{operands_start, operands_outside, operands_turn, operands_large, operands_long, operands_end}
 use Rattle.image_shapes.proofs.types.phi_words.Goals as goal
 
 pub returns-then-a-b : goal.returns-then-a-b

@@ -1,5 +1,4 @@
 use native.Mathlib.Omega.{arith}
-use borrow.Author.Rules.{rules}
 use Rattle.image_shapes.proofs.Sizes.{row_var, row_leaf, row_object, row_function, row_phi, row_other}
 use Rattle.image_shapes.proofs.types.type_words.Goals as goal
 

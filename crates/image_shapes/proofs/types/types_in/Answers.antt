@@ -1,13 +1,8 @@
-use Prim.Native.Nat.{◌-◌}
 use native.Mathlib.Omega.{arith}
-use mathlib.Core.Path.{◌≡◌, refl, sym}
-use lib.ListN.{length, length-set}
-use borrow.Author.Rules.{rules}
-use Rattle.image.specs.declared.Table.TheVariants.{Types}
-use Rattle.image.specs.Image.{count}
-use Rattle.image.specs.Check.{each, type_sound, types_sound}
-use Rattle.image_shapes.specs.Sizes.{Sized}
-use Rattle.image.proofs.Passed.{Passed, passed_start, passed_turn, passed_fails, passed_end}
+use mathlib.Core.Path.{refl, sym}
+use lib.ListN.{length-set}
+use Rattle.image.specs.Check.{each, types_sound}
+use Rattle.image.proofs.Passed.{passed_start, passed_turn, passed_fails, passed_end}
 use Rattle.image_shapes.proofs.Sizes.{sized_start, type_broken, type_kept, words_small, sized_turn}
 use Rattle.image_shapes.proofs.types.types_in.Goals as goal
 

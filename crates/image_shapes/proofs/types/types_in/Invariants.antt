@@ -1,14 +1,11 @@
 use Prim.Native.Nat.{◌-◌}
-use native.Mathlib.Omega.{arith}
-use mathlib.Core.Path.{◌≡◌, refl, sym}
-use lib.ListN.{length, length-set}
-use borrow.Author.Rules.{rules}
+use mathlib.Core.Path.{◌≡◌}
+use lib.ListN.{length}
 use Rattle.image.specs.declared.Table.TheVariants.{Types}
 use Rattle.image.specs.Image.{count}
-use Rattle.image.specs.Check.{each, type_sound, types_sound}
+use Rattle.image.specs.Check.{type_sound}
 use Rattle.image_shapes.specs.Sizes.{Sized}
-use Rattle.image.proofs.Passed.{Passed, passed_start, passed_turn, passed_fails, passed_end}
-use Rattle.image_shapes.proofs.Sizes.{sized_start, type_broken, type_kept, words_small, sized_turn}
+use Rattle.image.proofs.Passed.{Passed}
 use Rattle.image_shapes.proofs.types.types_in.Given as goal
 
 abbrev pub invariant-loop-n : goal.invariant-loop-n

@@ -1,6 +1,5 @@
 use native.Mathlib.Omega.{arith}
 use mathlib.Core.Path.{◌∙◌}
-use borrow.Author.Rules.{rules}
 use Rattle.image_shapes.proofs.Shape.{large_types}
 use Rattle.image_shapes.proofs.types.types_sound.Goals as goal
 

@@ -1,5 +1,4 @@
 use native.Mathlib.Omega.{arith}
-use borrow.Author.Rules.{rules}
 use Rattle.image.specs.declared.Table.TheVariants.{Types}
 use Rattle.image_shapes.proofs.types.types_sound_large.Goals as goal
 

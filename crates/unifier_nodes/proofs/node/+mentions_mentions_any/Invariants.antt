@@ -1,6 +1,5 @@
-use native.Mathlib.Omega.{arith}
-use Prim.Native.Nat.{ℕ, ◌<◌, ◌+◌, ◌*◌, ◌-◌}
-use Rattle.unifier_nodes.proofs.Mentioning.{tells_var, tells_plain, tells_func, tells_phi, stands_func, stands_phi, Seeking, seeking_none, seeking_next, seeking_found, seeking_more, seeking_end}
+use Prim.Native.Nat.{◌+◌, ◌*◌, ◌-◌}
+use Rattle.unifier_nodes.proofs.Mentioning.{Seeking}
 use Rattle.unifier_nodes.proofs.node.+mentions_mentions_any.Given as goal
 
 abbrev pub decreases-mentions : goal.decreases-mentions

@@ -1,5 +1,4 @@
 use native.Mathlib.Omega.{arith}
-use borrow.Author.Rules.{rules}
 use Rattle.unifier_nodes.proofs.Nodes.{stands_high, kind_var, kind_node}
 use Rattle.unifier_nodes.proofs.node.kind_of.Goals as goal
 

@@ -1,6 +1,5 @@
 use mathlib.Core.Path.{refl}
 use native.Mathlib.Omega.{arith}
-use borrow.Author.Rules.{rules}
 use Rattle.unifier_nodes.proofs.Nodes.{stands_high, reads_var, reads_prim, reads_poly, reads_method, reads_object, reads_phi, reads_func}
 use Rattle.unifier_nodes.proofs.node.node_at.Goals as goal
 

@@ -1,5 +1,3 @@
-use mathlib.Core.Bool.{Bool}
-use Rattle.unifier_nodes.specs.Promises.{StandBoth, Equals}
 use Rattle.unifier_nodes.proofs.Equalities.{stands_left, stands_right, leaves, equals_differ, equals_no_function, equals_inside, stand_inside}
 use Rattle.unifier_nodes.proofs.Getting.{read_as}
 use borrow.Enum.Refused.{opened}
