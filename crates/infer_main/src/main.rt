@@ -163,8 +163,8 @@ fn image_words(input: &[u8]) -> [u32; MOST_WORDS]
     ensures { 1024 ≡ length result }
 {
     let mut image = [0u32; MOST_WORDS];
-    for i in 0..MOST_WORDS {
-        image[i] = input_word(input, 3 + i as u32);
+    for (i, word) in image.iter_mut().enumerate() {
+        *word = input_word(input, 3 + i as u32);
     }
     image
 }
