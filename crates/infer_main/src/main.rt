@@ -1,7 +1,8 @@
 // Reads an image, its names and a budget from standard input, and prints what the run answers.
 #![tactic(auto)]
 
-ghost use Rattle.std.specs.Prelude.{◌≤◌, ◌<◌, ◌≡◌, length, IfOk};
+ghost use Rattle.std.specs.Prelude.{◌≤◌, ◌<◌, ◌≡◌, length, take, IfOk};
+ghost use Rattle.std.specs.Io.KnownBytes.{Consumes, IsAtEnd};
 
 use image::{WORK_WORDS_EACH, type_kinds};
 use std::io;
@@ -206,9 +207,12 @@ fn answer(rt: &impl Print, input: &[u8]) -> io::Result<bool> {
     Ok(true)
 }
 
-// Reads until the buffer is full or the input ends, and gives how many bytes were read.
-fn read_full(input: &mut impl Read, buffer: &mut [u8]) -> io::Result<usize>
-    ensures { IfOk result (λ n. n ≤ length buffer.new) }
+// Reads until the buffer is full or the input ends, and gives how many bytes were read. `remaining` is what a reader
+// has left, where that is known.
+fn read_full<R: Read>(input: &mut R, buffer: &mut [u8]) -> io::Result<usize>
+    ensures within { IfOk result (λ n. n ≤ length buffer.new) }
+    ensures read { IfOk result (λ n. Consumes (R.remaining input.old) (R.remaining input.new) (take n buffer.new)) }
+    ensures whole { IfOk result (λ n. n < length buffer.new → IsAtEnd (R.remaining input.new)) }
 {
     let mut done = 0;
     for _ in 0..u64::MAX {
