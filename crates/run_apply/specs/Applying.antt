@@ -4,7 +4,7 @@ use Rattle.std.proofs.Math.Option.{some}
 use Rattle.image.specs.declared.Table.TheVariants.{Slots}
 use Rattle.image.specs.Ty.{NONE, Ty}
 use Rattle.image.specs.Image.{word, count}
-use Rattle.image.specs.Program.{Program, program, function_of, to_depth}
+use Rattle.image.specs.Program.{program, function_of, to_depth}
 use Rattle.unifier_definition.specs.Log.{Log}
 use Rattle.unifier_definition.specs.Outcome.{Outcome, done}
 use Rattle.unifier_nodes.specs.Work.{at, Good, Room}
@@ -12,7 +12,7 @@ use Rattle.unifier_nodes.specs.Walks.{Refuses}
 use Rattle.run_definition.specs.Items.{concat_map_from}
 use Rattle.run_definition.specs.Visits.{Visit, visit, item_visits, nested_visits, instruction_visits, phi_visit, block_visits, function_visits, resolve_identifiers}
 use Rattle.run_definition.specs.Position.{words_at, item_at, items_at, form_at, instruction_at, instructions_at, phis_at, block_at, blocks_at}
-use Rattle.run_definition.specs.Fitting.{Passed, IdentifierAt, ItemFits, PlaceFits}
+use Rattle.run_definition.specs.Fitting.{Passed, ItemFits}
 use Rattle.run_layout.specs.Layout.{Prepared}
 use Rattle.run_tables.specs.Standing.{SlotsStand}
 use Rattle.run_layout.specs.declared.Layout.{Layout}

@@ -7,7 +7,7 @@ use lib.ListN.{length, get_or}
 use borrow.Author.Tests.{ltb-true}
 use Rattle.image.specs.declared.Table.TheVariants.{Functions}
 use Rattle.image.specs.Image.{word, count, cell, limits}
-use Rattle.image.specs.Read.{Read, nothing, got, below, between}
+use Rattle.image.specs.Read.{Read, got, below, between}
 use Rattle.image.specs.Body.{Body, identifier, param, block, body, body_at}
 use Rattle.image.specs.Program.{no_function, function_of, program}
 use Rattle.image.proofs.Bodies.{bodies_each}

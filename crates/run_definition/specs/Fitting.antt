@@ -1,8 +1,8 @@
 -- What a passed check has shown of each part of a body, by where it stands in the image. Assumes nothing.
-use Rattle.std.specs.Prelude.{ℕ, zero, suc, ◌+◌, ◌*◌, ◌≤◌, ◌<◌, ◌≡◌, true, List, [], ◌∷◌, length}
+use Rattle.std.specs.Prelude.{ℕ, suc, ◌+◌, ◌*◌, ◌≤◌, ◌<◌, ◌≡◌, true, List, [], ◌∷◌, length}
 use Rattle.std.proofs.Math.Option.{some}
-use Rattle.image.specs.declared.Table.TheVariants.{Names, Identifiers, Functions}
-use Rattle.image.specs.Image.{word, count, cell, limits}
+use Rattle.image.specs.declared.Table.TheVariants.{Names, Identifiers}
+use Rattle.image.specs.Image.{word, count, limits}
 use Rattle.image.specs.Kind.{Items, places_then, pattern}
 use Rattle.image.specs.Body.{one_of, aux_fits, nested}
 use Rattle.image.specs.Check.{check}

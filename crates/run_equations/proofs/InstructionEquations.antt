@@ -27,7 +27,7 @@ use Rattle.run_equations.specs.Parts.{CallAsked, Calls, AttributeAsked}
 use Rattle.run_layout.specs.declared.Layout.{Layout}
 use Rattle.run_walk.specs.declared.Walk.{Walk}
 use Rattle.run_definition.proofs.PositionLaws.{slot_is, name_is, type_is}
-use Rattle.run_walk.proofs.Composing.{layout_at, with_next, solves_made, solves_same, solves_none, own_fits}
+use Rattle.run_walk.proofs.Composing.{with_next, solves_made, solves_same, solves_none}
 use Rattle.run_equations.proofs.Standing.{Standing, var_stands, equal_asks_on, equal_solves_on, instruction_inside, lvalue_stands, prim_stands, object_stands, place_stands}
 
 -- the type of the identifier at a position

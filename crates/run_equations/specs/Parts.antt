@@ -5,7 +5,7 @@ use Rattle.image.specs.Ty.{var, func, function_kind}
 use Rattle.image.specs.Image.{word, count, cell}
 use Rattle.image.specs.Laid.{Laid, NamesInside}
 use Rattle.unifier_definition.specs.Unify.{◌≐◌}
-use Rattle.run_definition.specs.Fitting.{IdentifierAt, ItemFits, ParamsFit, BodyFits, PlaceFits}
+use Rattle.run_definition.specs.Fitting.{ItemFits, ParamsFit, BodyFits, PlaceFits}
 use Rattle.run_walk.specs.Solving.{place_type, Solving, AtInstruction, Solves}
 use Rattle.run_layout.specs.declared.Layout.{Layout}
 use Rattle.run_walk.specs.declared.Walk.{Walk}

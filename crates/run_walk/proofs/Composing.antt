@@ -14,7 +14,7 @@ use Rattle.unifier_definition.specs.Outcome.{Outcome, done, refused, out_of_step
 use Rattle.unifier_definition.specs.Property.{Registry}
 use Rattle.unifier_definition.specs.Unify.{Equation, ◌≐◌, ◌≐_property◌, unify_property, unify_equation, unify_all}
 use Rattle.unifier_definition.specs.Counts.{count_lookups}
-use Rattle.unifier_nodes.specs.Work.{at, Rep, rep_var, Good}
+use Rattle.unifier_nodes.specs.Work.{Rep, rep_var, Good}
 use Rattle.unifier_nodes.specs.Walks.{Refuses}
 use Rattle.unifier_properties.specs.Lookup.{registry_of}
 use Rattle.unifier_counts.specs.Given.{counts_of}

@@ -10,9 +10,8 @@ use Rattle.image.specs.Ty.{USE_REF, REF_VALUE, Ty, object}
 use Rattle.image.specs.Image.{count, type_at}
 use Rattle.image.specs.declared.Table.TheVariants.{Types}
 use Rattle.unifier_definition.specs.Log.{Log}
-use Rattle.unifier_definition.specs.Outcome.{out_of_steps, number_of, refused, and_then}
-use Rattle.unifier_definition.specs.Property.{PropertyNameKind, Access, Registry, Rule, exact, star, hook, Found, nothing, found, resolve_property_type, is_ref_access}
-use Rattle.unifier_definition.specs.Resolve.{get}
+use Rattle.unifier_definition.specs.Outcome.{out_of_steps, number_of, and_then}
+use Rattle.unifier_definition.specs.Property.{Access, Registry, Rule, exact, star, hook, Found, nothing, found, resolve_property_type, is_ref_access}
 use Rattle.unifier_definition.specs.Unify.{unify, unify_found, unify_property}
 use Rattle.unifier_definition.specs.Counts.{lookup_on, access_lookup}
 use Rattle.unifier_nodes.specs.Work.{Rep, Room, Frame}

@@ -8,7 +8,7 @@ use lib.ListN.{length, set, length-set}
 use borrow.Author.Tests.{eqb-true, eqb-false}
 use Rattle.image.specs.Ty.{Ty}
 use Rattle.unifier_definition.specs.Log.{Log, lookup, insert}
-use Rattle.unifier_definition.specs.Outcome.{Refusal, empty_phi, cycle, out_of_steps, number_of, Outcome, done, refused, and_then}
+use Rattle.unifier_definition.specs.Outcome.{Refusal, empty_phi, cycle, out_of_steps, number_of, Outcome, done}
 use Rattle.unifier_nodes.specs.Work.{at, Rep, bound, Good, Room, Frame}
 use Rattle.unifier_nodes.specs.Walks.{Refuses, Unifies}
 use Rattle.unifier_nodes.specs.Promises.{Keeps}

@@ -9,7 +9,7 @@ use lib.ListN.{length}
 use Rattle.image.specs.Ty.{Ty, Tys, nil, cons, count_of}
 use Rattle.unifier_definition.specs.Equal.{type_equals}
 use Rattle.unifier_definition.specs.Log.{Log}
-use Rattle.unifier_definition.specs.Outcome.{Outcome, done, refused, and_then}
+use Rattle.unifier_definition.specs.Outcome.{Outcome, done, and_then}
 use Rattle.unifier_definition.specs.Resolve.{get}
 use Rattle.unifier_definition.specs.Unify.{candidate_type}
 use Rattle.unifier_nodes.specs.Work.{at, Rep, Reps, reps_nil, reps_cons, Good, Room, Frame, Paid}

@@ -6,12 +6,12 @@ use Prim.Native.Nat.{ℕ, ◌+◌, ◌^◌, ◌≤◌, ◌<◌}
 use native.Mathlib.Omega.{arith}
 use lib.ListN.{length, set}
 use Rattle.image.specs.Ty.{Ty}
-use Rattle.unifier_definition.specs.Log.{Log, insert, mentions}
-use Rattle.unifier_definition.specs.Outcome.{cycle, out_of_steps, number_of, done, refused, and_then}
+use Rattle.unifier_definition.specs.Log.{Log, insert}
+use Rattle.unifier_definition.specs.Outcome.{cycle, out_of_steps, number_of, done, and_then}
 use Rattle.unifier_definition.specs.Resolve.{Resolved, try_resolve_type}
 use Rattle.unifier_definition.specs.Unify.{bind_resolved, bind_checked}
 use Rattle.unifier_nodes.specs.Work.{Rep, Good, Room}
-use Rattle.unifier_nodes.specs.Walks.{Known, Stands}
+use Rattle.unifier_nodes.specs.Walks.{Known}
 use Rattle.unifier_nodes.specs.Promises.{TellsMention, Readable, Checks, Rewrites, Keeps}
 use Rattle.unifier.specs.Choices.{BindsSlot}
 use Rattle.unifier_nodes.specs.declared.state.Got.{Got}

@@ -8,7 +8,7 @@ use lib.ListN.{length}
 use Rattle.image.specs.Ty.{Ty, var, phi, Tys, nil, cons, count_of}
 use Rattle.unifier_definition.specs.Cases.{as_var, as_phi}
 use Rattle.unifier_definition.specs.Log.{Log}
-use Rattle.unifier_definition.specs.Outcome.{empty_phi, number_of, done, refused, and_then}
+use Rattle.unifier_definition.specs.Outcome.{empty_phi, number_of, done, and_then}
 use Rattle.unifier_definition.specs.Resolve.{get}
 use Rattle.unifier_definition.specs.Unify.{candidate_type, bind_checked, bind_phi, binding_of, bind_unbound, unify}
 use Rattle.unifier_nodes.specs.Work.{at, Rep, rep_var, Reps, Good}

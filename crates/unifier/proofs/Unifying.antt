@@ -2,7 +2,7 @@
 use mathlib.Core.Path.{◌≡◌, refl, sym, ap, ◌∙◌}
 use mathlib.Core.Bool.{Bool, true, false, beq}
 use mathlib.Core.List.{List, [], ◌∷◌}
-use mathlib.Core.Option.{Option, none, some}
+use mathlib.Core.Option.{none, some}
 use Prim.Native.Nat.{ℕ, suc, ◌-◌, ◌≤◌, ◌<◌}
 use native.Mathlib.Omega.{arith}
 use lib.ListN.{length}
@@ -14,9 +14,9 @@ use Rattle.image.specs.declared.TypeId.{TypeId}
 use Rattle.unifier_definition.specs.Cases.{type_kind, is_poly, as_var, as_function, as_phi}
 use Rattle.unifier_definition.specs.Equal.{type_equals}
 use Rattle.unifier_definition.specs.Log.{Log, lookup}
-use Rattle.unifier_definition.specs.Outcome.{out_of_steps, number_of, done, refused}
+use Rattle.unifier_definition.specs.Outcome.{out_of_steps, number_of, done}
 use Rattle.unifier_definition.specs.Unify.{bind_checked, binding_of, bind_unbound, bind_slot, bind_body, unify_functions, unify_body, unify, bind_variable_to}
-use Rattle.unifier_nodes.specs.Work.{at, Leaf, leaf_prim, leaf_poly, leaf_method, leaf_object, Rep, rep_var, rep_leaf, rep_func, rep_phi, Bound, unbound, bound, Good}
+use Rattle.unifier_nodes.specs.Work.{at, Leaf, leaf_prim, leaf_poly, leaf_method, leaf_object, Rep, rep_var, rep_leaf, rep_func, rep_phi, Good}
 use Rattle.unifier_nodes.specs.Walks.{Known, ReadsNode, TellsKind, Unifies}
 use Rattle.unifier_nodes.specs.Promises.{StandBoth, Equals, Keeps, KnownBoth, Binds, UnifiesNodes}
 use Rattle.unifier.specs.Choices.{BindsSlot, unify_as_functions}

@@ -156,8 +156,9 @@ fn phi_candidate(w: &mut [u32], lo: u32, st0: State, first: u32, at: u32, count:
     Chosen { st, candidate }
 }
 
-// The same where the type is this Phi.
+// The same where the type is this Phi. Its frame is its own, so that the other entries of the cycle have small ones.
 #[cycle(bind_phi_bind_unbound_bind_variable_to_unify_unify_functions)]
+#[inline(never)]
 fn bind_phi(w: &mut [u32], lo: u32, st: State, slot: TypeId, ty: u32, at: u32, count: u32) -> State
     requires room { Room w.old st.top st.left st.stack }
     requires known { Known w.old lo st.top ty }

@@ -1,6 +1,4 @@
 use mathlib.Core.Path.{sym, ◌∙◌}
-use borrow.Author.Rules.{rules}
-use borrow.Author.Tests.{not-true, not-false}
 use Rattle.batch.proofs.Done.{refused_15, refused_16, asks_screens, done_cleared, done_untouched}
 use Rattle.batch.proofs.infer_batch.Goals as goal
 

@@ -1,4 +1,3 @@
-use borrow.Author.Rules.{rules}
 use borrow.Author.Tests.{lt-ltb, le-ltb}
 use Rattle.batch.specs.Steps.{lent_work}
 use Rattle.batch.proofs.lent_work.Goals as goal

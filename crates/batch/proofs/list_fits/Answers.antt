@@ -1,4 +1,3 @@
-use borrow.Author.Rules.{rules}
 use borrow.Author.Tests.{le-leb, lt-leb, eq-eqb, ne_eqb}
 use Rattle.batch.specs.Batch.{list_fits}
 use Rattle.batch.proofs.list_fits.Goals as goal

@@ -1,5 +1,4 @@
 use mathlib.Core.Path.{sym}
-use borrow.Author.Rules.{rules}
 use lib.Seq.{length-take-le}
 use Rattle.batch.proofs.Outputs.{lent_most, runs_own}
 use Rattle.batch.proofs.own_call.Goals as goal

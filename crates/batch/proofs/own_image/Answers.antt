@@ -1,5 +1,4 @@
 use native.Mathlib.Nat.{add-sub_cancel_left}
-use borrow.Author.Rules.{rules}
 use Rattle.batch.proofs.own_image.Goals as goal
 
 pub returns : goal.returns

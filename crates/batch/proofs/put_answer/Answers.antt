@@ -1,5 +1,4 @@
 use native.Mathlib.Omega.{arith}
-use borrow.Author.Rules.{rules}
 use lib.ListN.{length-set}
 use Rattle.run_answer.specs.Lent.{answer_of}
 use Rattle.batch.specs.Batch.{answer_row}

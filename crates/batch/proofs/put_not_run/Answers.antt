@@ -1,10 +1,7 @@
-use Prim.Native.Nat.{◌*◌, ◌-◌, ◌≤◌}
 use mathlib.Core.Path.{◌≡◌, refl, ap, ◌∙◌}
 use native.Mathlib.Omega.{arith}
 use borrow.Author.Rules.{rules}
 use lib.ListN.{length}
-use Rattle.run_answer.specs.Lent.{put}
-use Rattle.batch.specs.Batch.{not_run_rows}
 use Rattle.batch.proofs.Puts.{put_length}
 use Rattle.batch.proofs.NotRun.{row_length, not_run_none, not_run_one}
 use Rattle.batch.proofs.put_not_run.Goals as goal

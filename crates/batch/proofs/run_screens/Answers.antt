@@ -1,10 +1,9 @@
-use Prim.Native.Nat.{◌+◌, ◌-◌, ◌/◌}
+use Prim.Native.Nat.{◌+◌}
 use mathlib.Core.Path.{◌∙◌}
 use native.Mathlib.Omega.{arith}
-use borrow.Author.Rules.{rules}
 use lib.ListN.{length}
 use Rattle.batch.proofs.Listed.{div_rows}
-use Rattle.batch.proofs.Going.{SoFar, starts, tabled_length, answered_length, row_room, used_inside, ends, next_inside, last_room, turns, stops}
+use Rattle.batch.proofs.Going.{starts, tabled_length, answered_length, row_room, used_inside, ends, next_inside, last_room, turns, stops}
 use Rattle.batch.proofs.run_screens.Goals as goal
 
 pub loop-k-init : goal.loop-k-init

@@ -1,10 +1,6 @@
-use Prim.Native.Nat.{◌+◌, ◌-◌, ◌/◌}
-use mathlib.Core.Path.{◌∙◌}
-use native.Mathlib.Omega.{arith}
-use borrow.Author.Rules.{rules}
+use Prim.Native.Nat.{◌-◌, ◌/◌}
 use lib.ListN.{length}
-use Rattle.batch.proofs.Listed.{div_rows}
-use Rattle.batch.proofs.Going.{SoFar, starts, tabled_length, answered_length, row_room, used_inside, ends, next_inside, last_room, turns, stops}
+use Rattle.batch.proofs.Going.{SoFar}
 use Rattle.batch.proofs.run_screens.Given as goal
 
 abbrev pub invariant-loop-k : goal.invariant-loop-k

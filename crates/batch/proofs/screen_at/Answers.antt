@@ -1,5 +1,4 @@
 use mathlib.Core.Path.{refl}
-use borrow.Author.Rules.{rules}
 use Rattle.batch.specs.Batch.{screen_at}
 use Rattle.batch.proofs.screen_at.Goals as goal
 

@@ -1,4 +1,3 @@
-use borrow.Author.Rules.{rules}
 use borrow.Author.Tests.{le-leb, lt-leb}
 use Rattle.image.specs.Check.{inside}
 use Rattle.batch.specs.Batch.{screen_inside}

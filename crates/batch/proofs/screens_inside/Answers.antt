@@ -1,11 +1,8 @@
-use Prim.Native.Nat.{◌-◌, ◌/◌, ◌≤◌}
-use mathlib.Core.Path.{◌≡◌, sym, ◌∙◌}
+use mathlib.Core.Path.{sym, ◌∙◌}
 use native.Mathlib.Omega.{arith}
 use native.Mathlib.Nat.{sub-zero}
 use borrow.Author.Rules.{rules}
-use borrow.Author.Tests.{not-true, not-false}
 use lib.ListN.{length}
-use Rattle.batch.specs.Batch.{screens_from, screens_of, screens_inside}
 use Rattle.batch.proofs.Listed.{div_rows, inside_next, inside_not, inside_end}
 use Rattle.batch.proofs.screens_inside.Goals as goal
 

@@ -1,6 +1,5 @@
 use mathlib.Core.Path.{sym, ◌∙◌}
 use native.Mathlib.Omega.{arith}
-use borrow.Author.Rules.{rules}
 use Rattle.run_solve.proofs.Lending.{sizes, asks_run}
 use Rattle.infer.proofs.EntryWords.{infers_passed, infers_refused}
 use Rattle.infer.proofs.infer_types.Goals as goal

@@ -1,5 +1,4 @@
 use native.Mathlib.Omega.{arith}
-use borrow.Author.Rules.{rules}
 use Rattle.infer.proofs.RunWords.{runs_stopped, asks_write, runs_done}
 use Rattle.infer.proofs.run.Goals as goal
 

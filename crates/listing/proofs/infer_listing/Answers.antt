@@ -1,6 +1,5 @@
 use mathlib.Core.Path.{sym, ◌∙◌}
 use native.Mathlib.Omega.{arith}
-use borrow.Author.Rules.{rules}
 use Rattle.run_solve.proofs.Lending.{sizes, asks_run}
 use Rattle.listing.proofs.Entries.{lists_passed, lists_refused}
 use Rattle.listing.proofs.infer_listing.Goals as goal

@@ -1,9 +1,6 @@
 use native.Mathlib.Omega.{arith}
-use borrow.Author.Rules.{rules}
-use Prim.Native.Nat.{◌-◌}
-use Rattle.run_tables.specs.Writing.{counting}
 use Rattle.run_tables.proofs.Sinks.{counting_lawful}
-use Rattle.listing.proofs.RowWords.{RowsLeft, rows_first, rows_inside, rows_next, rows_more, rows_end}
+use Rattle.listing.proofs.RowWords.{rows_first, rows_inside, rows_next, rows_more, rows_end}
 use Rattle.listing.proofs.listing_size.Goals as goal
 
 pub loop-k-init : goal.loop-k-init

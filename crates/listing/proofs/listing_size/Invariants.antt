@@ -1,9 +1,6 @@
-use native.Mathlib.Omega.{arith}
-use borrow.Author.Rules.{rules}
 use Prim.Native.Nat.{◌-◌}
 use Rattle.run_tables.specs.Writing.{counting}
-use Rattle.run_tables.proofs.Sinks.{counting_lawful}
-use Rattle.listing.proofs.RowWords.{RowsLeft, rows_first, rows_inside, rows_next, rows_more, rows_end}
+use Rattle.listing.proofs.RowWords.{RowsLeft}
 use Rattle.listing.proofs.listing_size.Given as goal
 
 abbrev pub invariant-loop-k : goal.invariant-loop-k

@@ -1,6 +1,5 @@
 use native.Mathlib.Omega.{arith}
 use mathlib.Core.Path.{refl}
-use borrow.Author.Rules.{rules}
 use Rattle.run_tables.proofs.Sinks.{counting_lawful}
 use Rattle.listing.proofs.RowWords.{row_inside, room_slot, room_unbound, emits_unbound, asks_type, emits_bound}
 use Rattle.listing.proofs.row_size.Goals as goal

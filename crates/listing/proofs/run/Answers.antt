@@ -1,4 +1,3 @@
-use borrow.Author.Rules.{rules}
 use Rattle.listing.proofs.AfterRun.{asks_variables}
 use Rattle.listing.proofs.Answers.{runs_stopped, runs_outside, asks_count, runs_long, asks_rows, asks_tables, runs_done}
 use Rattle.listing.proofs.run.Goals as goal

@@ -1,9 +1,6 @@
 use native.Mathlib.Omega.{arith}
-use borrow.Author.Rules.{rules}
-use Prim.Native.Nat.{◌-◌}
-use Rattle.run_tables.specs.Writing.{writing, table}
 use Rattle.run_tables.proofs.Sinks.{writing_lawful}
-use Rattle.listing.proofs.RowWords.{RowsLeft, rows_first, rows_inside, rows_next, rows_more, rows_end, rows_length, rows_written}
+use Rattle.listing.proofs.RowWords.{rows_first, rows_inside, rows_next, rows_more, rows_end, rows_length, rows_written}
 use Rattle.listing.proofs.write_listing.Goals as goal
 
 pub loop-k-init : goal.loop-k-init

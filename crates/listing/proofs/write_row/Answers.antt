@@ -1,4 +1,3 @@
-use borrow.Author.Rules.{rules}
 use Rattle.run_tables.proofs.Sinks.{writing_lawful}
 use Rattle.listing.proofs.RowWords.{row_inside, room_slot, room_unbound, emits_unbound, asks_type, emits_bound, row_length}
 use Rattle.listing.proofs.write_row.Goals as goal

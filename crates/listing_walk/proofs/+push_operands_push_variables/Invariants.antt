@@ -1,7 +1,5 @@
-use native.Mathlib.Omega.{arith}
-use borrow.Author.Rules.{rules}
-use Prim.Native.Nat.{ℕ, ◌<◌, ◌+◌, ◌*◌}
-use Rattle.listing_walk.proofs.Pushing.{pushed_none, pushed_one, asked_stands, room_alone, pushes_alone, asks_func, pushes_func, asks_phi, pushes_phi, Pushing, pushing_none, next_operand, pushing_more, pushing_end, pushing_length}
+use Prim.Native.Nat.{◌+◌, ◌*◌}
+use Rattle.listing_walk.proofs.Pushing.{Pushing}
 use Rattle.listing_walk.proofs.+push_operands_push_variables.Given as goal
 
 abbrev pub decreases-push_operands : goal.decreases-push_operands

@@ -1,5 +1,4 @@
 use native.Mathlib.Omega.{arith}
-use borrow.Author.Rules.{rules}
 use Rattle.listing_walk.proofs.Marks.{mark_free, order_inside, seek_past, seek_found}
 use Rattle.listing_walk.proofs.is_listed.Goals as goal
 

@@ -1,8 +1,5 @@
 use native.Mathlib.Omega.{arith}
-use borrow.Author.Rules.{rules}
-use borrow.Author.Tests.{not-true, not-false}
-use Rattle.listing_walk.proofs.Going.{Looping, turns_left, first_asked, looping_first, end_small, read_inside, seek_asked, list_asked, looping_list, looping_skip, few_listed, list_less, skip_less, looping_end, lists_all}
-use Rattle.listing_walk.proofs.list_variables.Lts as lts
+use Rattle.listing_walk.proofs.Going.{first_asked, looping_first, end_small, read_inside, seek_asked, list_asked, looping_list, looping_skip, few_listed, list_less, skip_less, looping_end, lists_all}
 use Rattle.listing_walk.proofs.list_variables.Goals as goal
 
 pub list_variable-end-requires : goal.list_variable-end-requires

@@ -1,4 +1,3 @@
-use borrow.Author.Rules.{rules}
 use mathlib.Core.Path.{sym}
 use Rattle.listing_walk.proofs.Marks.{mark_low, mark_high}
 use Rattle.listing_walk.proofs.mark_of.Goals as goal

@@ -1,4 +1,3 @@
-use borrow.Author.Rules.{rules}
 use mathlib.Core.Path.{sym}
 use Rattle.listing_walk.proofs.Marks.{order_is}
 use Rattle.listing_walk.proofs.order_of.Goals as goal

@@ -1,7 +1,4 @@
 use mathlib.Core.Path.{◌≡◌, ap, ◌∙◌}
-use mathlib.Core.List.{◌++◌}
-use Prim.Native.Nat.{◌≤◌, ◌-◌}
-use lib.ListN.{length, replicate, drop}
 use borrow.Author.Fill.{fill_none, fill_more}
 use borrow.Author.Rules.{rules}
 use native.Mathlib.Omega.{arith}

@@ -1,15 +1,13 @@
-use Prim.Native.Nat.{◌+◌, ◌*◌, ◌-◌}
+use Prim.Native.Nat.{◌+◌}
 use mathlib.Core.Path.{refl, ap}
 use mathlib.Core.Logic.{inl, inr}
 use Rattle.image.specs.Ty.{NONE}
 use Rattle.run_definition.specs.Position.{after_instruction, after_block}
 use Rattle.run_definition.proofs.PositionLaws.{nested_below}
 use Rattle.run_apply.proofs.ApplyLaws.{laid_of, few_functions, passing_next}
-use Rattle.run_apply.proofs.ApplyLoops.{Left, left_none, left_first, left_more, left_done, left_to, instruction_lies, instructions_course, instructions_turn, blocks_course, blocks_turn}
+use Rattle.run_apply.proofs.ApplyLoops.{left_none, left_first, left_more, left_done, left_to, instruction_lies, instructions_turn, blocks_turn}
 use Rattle.run_apply.proofs.ApplyParts.{nested_none, nested_some, instruction_plain, instruction_naming, block_end, block_lies, block_instructions, block_parts, params_lie, returns_fit, context_fits, context_lies, blocks_lie, blocks_fit, inner_parts, function_parts}
-use borrow.Author.Rules.{rules}
 use native.Mathlib.Omega.{arith}
-use Prim.Native.Nat.{ℕ, ◌<◌}
 use Rattle.run_apply.proofs.+apply_block_apply_blocks_apply_function_apply_inner_apply_instruction_apply_instructions.Goals as goal
 
 pub apply_block-overflow_add-at : goal.apply_block-overflow_add-at

@@ -1,4 +1,3 @@
-use borrow.Author.Rules.{rules}
 use Rattle.run_definition.proofs.ProgramScope.{some_function}
 use Rattle.run_definition.proofs.PositionsBody.{checked}
 use Rattle.run_apply.proofs.ApplyLaws.{applying_passing}

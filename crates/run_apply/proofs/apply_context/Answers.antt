@@ -1,7 +1,5 @@
-use Prim.Native.Nat.{◌+◌, ◌-◌}
 use Rattle.image.specs.Ty.{NONE}
-use Rattle.run_apply.proofs.ApplyLoops.{Left, left_none, left_first, left_more, left_done, context_course, context_turn}
-use borrow.Author.Rules.{rules}
+use Rattle.run_apply.proofs.ApplyLoops.{left_none, left_first, left_more, left_done, context_turn}
 use native.Mathlib.Omega.{arith}
 use Rattle.run_apply.proofs.apply_context.Goals as goal
 

@@ -1,8 +1,5 @@
 use Prim.Native.Nat.{◌+◌, ◌-◌}
-use Rattle.image.specs.Ty.{NONE}
-use Rattle.run_apply.proofs.ApplyLoops.{Left, left_none, left_first, left_more, left_done, context_course, context_turn}
-use borrow.Author.Rules.{rules}
-use native.Mathlib.Omega.{arith}
+use Rattle.run_apply.proofs.ApplyLoops.{Left, context_course}
 use Rattle.run_apply.proofs.apply_context.Given as goal
 
 abbrev pub invariant-loop-k : goal.invariant-loop-k

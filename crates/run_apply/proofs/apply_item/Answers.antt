@@ -1,7 +1,6 @@
 use Rattle.run_apply.proofs.ApplyLaws.{stays, next_none, next_then, next_as, passing_next}
 use Rattle.run_apply.proofs.ApplyParts.{item_hole, item_plain, item_pattern, item_keyed}
 use native.Mathlib.Omega.{arith}
-use borrow.Author.Rules.{rules}
 use Rattle.run_apply.proofs.apply_item.Goals as goal
 
 pub returns-then-tag-eq-HOLE : goal.returns-then-tag-eq-HOLE

@@ -1,6 +1,4 @@
-use Prim.Native.Nat.{◌+◌, ◌*◌, ◌-◌}
-use Rattle.run_apply.proofs.ApplyLoops.{Left, left_none, left_first, left_more, left_done, items_course, items_turn, items_fit, instruction_lies}
-use borrow.Author.Rules.{rules}
+use Rattle.run_apply.proofs.ApplyLoops.{left_none, left_first, left_more, left_done, items_turn, items_fit, instruction_lies}
 use native.Mathlib.Omega.{arith}
 use Rattle.run_apply.proofs.apply_items.Goals as goal
 

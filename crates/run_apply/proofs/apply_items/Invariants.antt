@@ -1,7 +1,5 @@
 use Prim.Native.Nat.{◌+◌, ◌*◌, ◌-◌}
-use Rattle.run_apply.proofs.ApplyLoops.{Left, left_none, left_first, left_more, left_done, items_course, items_turn, items_fit, instruction_lies}
-use borrow.Author.Rules.{rules}
-use native.Mathlib.Omega.{arith}
+use Rattle.run_apply.proofs.ApplyLoops.{Left, items_course}
 use Rattle.run_apply.proofs.apply_items.Given as goal
 
 abbrev pub invariant-loop-k : goal.invariant-loop-k

@@ -1,9 +1,7 @@
-use Prim.Native.Nat.{◌-◌}
 use mathlib.Core.Path.{refl}
 use Rattle.image.specs.Ty.{NONE}
 use Rattle.run_definition.specs.Position.{after_phi}
-use Rattle.run_apply.proofs.ApplyLoops.{Left, left_none, left_first, left_more, left_to, phis_course, phis_turn, phi_lies}
-use borrow.Author.Rules.{rules}
+use Rattle.run_apply.proofs.ApplyLoops.{left_none, left_first, left_more, left_to, phis_turn, phi_lies}
 use native.Mathlib.Omega.{arith}
 use Rattle.run_apply.proofs.apply_phis.Goals as goal
 

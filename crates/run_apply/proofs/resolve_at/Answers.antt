@@ -1,6 +1,5 @@
 use Rattle.run_apply.proofs.ApplyLaws.{laid_of, next_refused, slot_word, slot_known, place_refused, place_resolved}
 use native.Mathlib.Omega.{arith}
-use borrow.Author.Rules.{rules}
 use Rattle.run_apply.proofs.resolve_at.Goals as goal
 
 pub returns-then-refused-ne0 : goal.returns-then-refused-ne0

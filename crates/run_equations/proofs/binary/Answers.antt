@@ -1,4 +1,3 @@
-use borrow.Author.Rules.{rules}
 use native.Mathlib.Omega.{arith}
 use Rattle.run_equations.proofs.Standing.{instruction_inside, instruction_low, instruction_any}
 use Rattle.run_equations.proofs.InstructionEquations.{when_solves, skip_solves, flagged, unflagged}

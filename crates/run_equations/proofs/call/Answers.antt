@@ -1,4 +1,3 @@
-use borrow.Author.Rules.{rules}
 use native.Mathlib.Omega.{arith}
 use Rattle.run_walk.proofs.Composing.{solves_spent, next_fits}
 use Rattle.run_equations.proofs.Standing.{instruction_low, lvalue_asks}

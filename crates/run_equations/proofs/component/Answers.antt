@@ -1,4 +1,3 @@
-use borrow.Author.Rules.{rules}
 use native.Mathlib.Omega.{arith}
 use Rattle.run_equations.proofs.FunctionEquations.{first_param_asks, second_param_asks, no_component, no_param, one_param, two_params}
 use Rattle.run_equations.proofs.component.Goals as goal

@@ -1,4 +1,3 @@
-use borrow.Author.Rules.{rules}
 use native.Mathlib.Omega.{arith}
 use Rattle.run_equations.proofs.Standing.{instruction_low, lvalue_asks}
 use Rattle.run_equations.proofs.InstructionEquations.{function_asks, function_solves}

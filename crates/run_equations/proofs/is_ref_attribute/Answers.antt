@@ -1,4 +1,3 @@
-use borrow.Author.Rules.{rules}
 use native.Mathlib.Omega.{arith}
 use Rattle.run_equations.proofs.InstructionEquations.{not_attribute, attribute_name, is_attribute}
 use Rattle.run_equations.proofs.is_ref_attribute.Goals as goal

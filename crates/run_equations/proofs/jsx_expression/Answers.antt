@@ -1,4 +1,3 @@
-use borrow.Author.Rules.{rules}
 use native.Mathlib.Omega.{arith}
 use Rattle.run_walk.proofs.Composing.{own_fits}
 use Rattle.run_equations.proofs.Standing.{object_stands, equal_asks_on, equal_solves_on, instruction_low, lvalue_asks, lvalue_stands}

@@ -1,4 +1,3 @@
-use borrow.Author.Rules.{rules}
 use native.Mathlib.Omega.{arith}
 use Rattle.run_equations.proofs.FunctionEquations.{param_shape, param_none, param_asks, param_some}
 use Rattle.run_equations.proofs.param.Goals as goal

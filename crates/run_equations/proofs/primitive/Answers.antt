@@ -1,4 +1,3 @@
-use borrow.Author.Rules.{rules}
 use native.Mathlib.Omega.{arith}
 use Rattle.run_equations.proofs.Standing.{prim_stands, equal_asks, equal_solves, instruction_low, lvalue_asks, lvalue_stands}
 use Rattle.run_equations.proofs.primitive.Goals as goal

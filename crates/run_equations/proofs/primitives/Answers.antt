@@ -1,4 +1,3 @@
-use borrow.Author.Rules.{rules}
 use native.Mathlib.Omega.{arith}
 use Rattle.run_equations.proofs.Standing.{prim_stands, equal_asks, equal_solves, equal_asks_on, equal_solves_on, instruction_low, lvalue_asks, lvalue_stands, first_asks, first_stands, second_asks, second_stands}
 use Rattle.run_equations.proofs.primitives.Goals as goal

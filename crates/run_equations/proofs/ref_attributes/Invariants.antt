@@ -1,12 +1,6 @@
 -- The loop's invariant: the attributes of the first k items.
-use borrow.Author.Rules.{rules}
-use native.Mathlib.Omega.{arith}
 use Prim.Native.Nat.{◌+◌, ◌≤◌, ◌-◌}
-use mathlib.Core.Logic.{⊎_elim}
 use mathlib.Core.List.{flat_map}
-use Rattle.run_walk.proofs.Composing.{own_fits}
-use Rattle.run_equations.proofs.Standing.{object_stands, equal_asks_on, instruction_inside, instruction_low}
-use Rattle.run_equations.proofs.InstructionEquations.{items_start, item_low, items_all, attribute_asks, attribute_place, attribute_stands, attribute_turn, attribute_skip}
 use Rattle.image.specs.Program.{program}
 use Rattle.run_definition.specs.Equations.{attribute_equations}
 use Rattle.run_definition.specs.Position.{items_at}

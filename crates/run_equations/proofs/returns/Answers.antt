@@ -1,4 +1,3 @@
-use borrow.Author.Rules.{rules}
 use native.Mathlib.Omega.{arith}
 use Rattle.run_equations.proofs.FunctionEquations.{returns_fit, returns_long, returns_place, nothing_returned, one_asks, one_returned, more_asks, more_returned}
 use Rattle.run_equations.proofs.returns.Goals as goal

@@ -1,13 +1,9 @@
-use borrow.Author.Rules.{rules}
 use native.Mathlib.Omega.{arith}
-use Prim.Native.Nat.{ℕ, ◌+◌, ◌*◌, ◌-◌, ◌<◌}
-use Rattle.image.specs.declared.Table.TheVariants.{Functions}
-use Rattle.image.specs.Image.{count}
 use Rattle.run_definition.specs.Position.{after_instruction}
 use Rattle.run_definition.proofs.PositionLaws.{nested_below}
 use Rattle.run_generate.proofs.KindTable.{nested_some, nested_none}
 use Rattle.run_generate.proofs.Dispatch.{instruction_inside}
-use Rattle.run_generate.proofs.Loops.{Going, going_none, going_one, going_more, going_stopped, going_done, instructions_row, blocks_row, generating, instructions_doing, blocks_doing, instructions_stopped, instructions_short, instructions_done}
+use Rattle.run_generate.proofs.Loops.{going_none, going_one, going_more, going_stopped, going_done, instructions_row, blocks_row, generating, instructions_doing, blocks_doing, instructions_stopped, instructions_short, instructions_done}
 use Rattle.run_generate.proofs.Cycle.{ready_own, inner_done, instruction_stopped, instruction_inner, instruction_plain, instruction_ready, inner_ready, block_places, block_inside, block_instructions, block_stopped, phis_land, block_ready, block_done, function_places, component_asked, returns_asked, blocks_fit, function_stopped, function_ready, function_broken, blocks_ready, function_done}
 use Rattle.run_generate.proofs.+generate_block_generate_blocks_generate_function_generate_instruction_generate_instructions_inner.Goals as goal
 

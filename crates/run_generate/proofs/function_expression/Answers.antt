@@ -1,4 +1,3 @@
-use borrow.Author.Rules.{rules}
 use native.Mathlib.Omega.{arith}
 use Rattle.run_generate.proofs.Dispatch.{instruction_inside}
 use Rattle.run_generate.proofs.function_expression.Goals as goal

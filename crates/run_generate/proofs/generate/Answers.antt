@@ -1,4 +1,3 @@
-use borrow.Author.Rules.{rules}
 use Rattle.run_generate.proofs.Cycle.{outermost_ready}
 use Rattle.run_generate.proofs.generate.Goals as goal
 

@@ -1,9 +1,7 @@
-use Prim.Native.Nat.{◌-◌}
 use mathlib.Core.List.{[]}
 use native.Mathlib.Omega.{arith}
-use borrow.Author.Rules.{rules}
 use Rattle.run_definition.specs.Position.{after_phi}
-use Rattle.run_generate.proofs.Loops.{Going, going_none, going_one, going_more, phis_row, phis_doing, phis_stopped, phis_short, phis_done}
+use Rattle.run_generate.proofs.Loops.{going_none, going_one, going_more, phis_row, phis_doing, phis_stopped, phis_short, phis_done}
 use Rattle.run_generate.proofs.generate_phis.Goals as goal
 
 pub loop-init : goal.loop-init

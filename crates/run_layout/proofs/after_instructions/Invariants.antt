@@ -1,10 +1,7 @@
-use borrow.Author.Rules.{rules}
-use native.Mathlib.Omega.{arith}
 use Prim.Native.Nat.{◌-◌}
-use mathlib.Core.Path.{refl}
-use Rattle.run_definition.specs.Position.{after_instruction, after_instructions}
+use Rattle.run_definition.specs.Position.{after_instructions}
 use Rattle.run_layout.specs.Laying.{SomeInstructions}
-use Rattle.run_layout.proofs.BodyWalks.{Walk, walk_start, walk_turn, walk_end, instruction_parts, instruction_inside}
+use Rattle.run_layout.proofs.BodyWalks.{Walk}
 use Rattle.run_layout.proofs.after_instructions.Given as goal
 
 abbrev pub invariant-loop : goal.invariant-loop

@@ -1,9 +1,6 @@
-use borrow.Author.Rules.{rules}
 use native.Mathlib.Omega.{arith}
-use Prim.Native.Nat.{◌-◌, ◌≤◌}
 use mathlib.Core.Path.{ap, ◌∙◌}
 use Rattle.unifier_nodes.specs.Walks.{type_node}
-use Rattle.run_layout.specs.Laying.{LaysWords, EntryWord}
 use Rattle.run_layout.proofs.LayingLaws.{words_none, words_store, words_all, placed_in}
 use Rattle.run_layout.proofs.lay_entries.Goals as goal
 

@@ -1,4 +1,3 @@
-use borrow.Author.Rules.{rules}
 use Rattle.run_layout.proofs.LayingLaws.{regions_later}
 use Rattle.run_layout.proofs.LaidOut.{image_fits, regions, types_asked, places_asked, own_asked, returns_asked, entries_asked, all_laid}
 use Rattle.run_layout.proofs.lay_out.Goals as goal

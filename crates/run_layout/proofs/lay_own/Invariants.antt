@@ -1,10 +1,6 @@
-use borrow.Author.Rules.{rules}
-use native.Mathlib.Omega.{arith}
 use Prim.Native.Nat.{◌+◌, ◌-◌, ◌≤◌}
-use mathlib.Core.Path.{◌∙◌}
 use Rattle.run_layout.specs.Laying.{Lays}
-use Rattle.unifier_nodes.proofs.Words.{wrote, node_length}
-use Rattle.run_layout.proofs.LayingLaws.{ObjectWords, lays_none, lays_all, object_more, lays_own}
+use Rattle.run_layout.proofs.LayingLaws.{ObjectWords}
 use Rattle.run_layout.proofs.lay_own.Given as goal
 
 abbrev pub invariant-loop-s : goal.invariant-loop-s

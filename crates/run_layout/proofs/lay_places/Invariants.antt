@@ -1,10 +1,6 @@
-use borrow.Author.Rules.{rules}
-use native.Mathlib.Omega.{arith}
 use Prim.Native.Nat.{◌-◌, ◌≤◌}
-use mathlib.Core.Logic.{⊎_elim}
 use lib.ListN.{length}
 use Rattle.run_layout.specs.Laying.{LaysWords, PlaceWord}
-use Rattle.run_layout.proofs.LayingLaws.{words_none, words_store, words_skip, words_all}
 use Rattle.run_layout.proofs.lay_places.Given as goal
 
 abbrev pub invariant-loop-k : goal.invariant-loop-k

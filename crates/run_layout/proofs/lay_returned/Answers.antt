@@ -1,9 +1,6 @@
-use borrow.Author.Rules.{rules}
 use native.Mathlib.Omega.{arith}
-use Prim.Native.Nat.{◌-◌}
-use mathlib.Core.Logic.{⊎_elim}
 use lib.ListN.{length-set}
-use Rattle.run_layout.proofs.ReturnWalks.{Returning, this_block, block_long, count_inside, block_instructions, returning_start, returning_bounds, returning_skip, returning_more, returning_inside, returning_end}
+use Rattle.run_layout.proofs.ReturnWalks.{this_block, block_long, count_inside, block_instructions, returning_start, returning_bounds, returning_skip, returning_more, returning_inside, returning_end}
 use Rattle.run_layout.proofs.lay_returned.Goals as goal
 use Rattle.run_layout.proofs.lay_returned.Goals.{else-img-b-eq-RETURN, then-img-b-eq-RETURN}
 

@@ -1,10 +1,5 @@
-use borrow.Author.Rules.{rules}
 use native.Mathlib.Omega.{arith}
-use Prim.Native.Nat.{◌+◌, ◌-◌, ◌≤◌}
-use lib.ListN.{length}
 use Rattle.run_definition.specs.Position.{context_place, blocks_place}
-use Rattle.run_layout.specs.Layout.{ReturnsLaid}
-use Rattle.run_layout.specs.Laying.{Lays}
 use Rattle.run_layout.proofs.LayingLaws.{lays_none, lays_all}
 use Rattle.run_layout.proofs.BodyReturns.{context_inside, blocks_inside, blocks_asked, returns_more}
 use Rattle.run_layout.proofs.lay_returns.Goals as goal

@@ -1,9 +1,4 @@
-use borrow.Author.Rules.{rules}
 use native.Mathlib.Omega.{arith}
-use Prim.Native.Nat.{◌+◌, ◌-◌, ◌*◌, ◌≤◌}
-use Rattle.image.specs.declared.Table.TheVariants.{Types}
-use Rattle.image.specs.Image.{count}
-use Rattle.run_layout.specs.Laying.{Lays, RowLaid}
 use Rattle.run_layout.proofs.LayingLaws.{lays_none, lays_more, lays_all, row_same}
 use Rattle.run_layout.proofs.lay_types.Goals as goal
 

@@ -1,10 +1,7 @@
-use borrow.Author.Rules.{rules}
-use native.Mathlib.Omega.{arith}
 use Prim.Native.Nat.{◌+◌, ◌-◌, ◌*◌, ◌≤◌}
 use Rattle.image.specs.declared.Table.TheVariants.{Types}
 use Rattle.image.specs.Image.{count}
 use Rattle.run_layout.specs.Laying.{Lays, RowLaid}
-use Rattle.run_layout.proofs.LayingLaws.{lays_none, lays_more, lays_all, row_same}
 use Rattle.run_layout.proofs.lay_types.Given as goal
 
 abbrev pub invariant-loop-t : goal.invariant-loop-t

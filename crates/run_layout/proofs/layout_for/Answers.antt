@@ -1,4 +1,3 @@
-use borrow.Author.Rules.{rules}
 use native.Mathlib.Omega.{arith}
 use Rattle.image.specs.declared.Table.TheVariants.{Slots, Types, Lists}
 use Rattle.run_layout.specs.Layout.{layout_of}

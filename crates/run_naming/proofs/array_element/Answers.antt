@@ -1,5 +1,4 @@
 use native.Mathlib.Omega.{arith}
-use borrow.Author.Rules.{rules}
 use Rattle.run_walk.proofs.Composing.{own_fits}
 use Rattle.run_naming.proofs.Patterns.{item_asked, position_asked, position_generates, spread_asked, spread_generates, hole_generates}
 use Rattle.run_naming.proofs.array_element.Goals as goal

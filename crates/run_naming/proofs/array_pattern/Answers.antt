@@ -1,11 +1,8 @@
-use Prim.Native.Nat.{◌+◌, ◌-◌, ◌≤◌}
 use mathlib.Core.Path.{◌∙◌}
 use native.Mathlib.Omega.{arith}
 use borrow.Author.Rules.{rules}
-use Rattle.image.specs.Program.{program}
-use Rattle.run_definition.specs.Equations.{array_equations}
 use Rattle.run_naming.proofs.Accessing.{words_inside}
-use Rattle.run_naming.proofs.Patterns.{ItemsDone, items_none, items_on, pattern_ends, pattern_stops, element_asked, array_gives}
+use Rattle.run_naming.proofs.Patterns.{items_none, items_on, pattern_ends, pattern_stops, element_asked, array_gives}
 use Rattle.run_naming.proofs.array_pattern.Goals as goal
 
 pub overflow_add-n : goal.overflow_add-n

@@ -1,12 +1,8 @@
 -- The loop's invariant: the equations of the first k items are done.
 use Prim.Native.Nat.{◌+◌, ◌-◌, ◌≤◌}
-use mathlib.Core.Path.{◌∙◌}
-use native.Mathlib.Omega.{arith}
-use borrow.Author.Rules.{rules}
 use Rattle.image.specs.Program.{program}
 use Rattle.run_definition.specs.Equations.{array_equations}
-use Rattle.run_naming.proofs.Accessing.{words_inside}
-use Rattle.run_naming.proofs.Patterns.{ItemsDone, items_none, items_on, pattern_ends, pattern_stops, element_asked, array_gives}
+use Rattle.run_naming.proofs.Patterns.{ItemsDone}
 use Rattle.run_naming.proofs.array_pattern.Given as goal
 
 abbrev pub invariant-loop-k : goal.invariant-loop-k

@@ -1,4 +1,3 @@
-use borrow.Author.Rules.{rules}
 use Rattle.run_naming.proofs.NameLogs.{shape_off, shape_set, shape_other}
 use Rattle.run_naming.proofs.callee_shape.Goals as goal
 

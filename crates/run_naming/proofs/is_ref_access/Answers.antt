@@ -1,5 +1,3 @@
-use borrow.Author.Rules.{rules}
-use borrow.Author.Tests.{not-true}
 use Rattle.unifier_properties.proofs.Lookups.{key_named}
 use Rattle.run_naming.proofs.NameLogs.{ref_off, ref_other, ref_unlike, ref_named}
 use borrow.Enum.Refused.{opened}

@@ -1,5 +1,4 @@
 use native.Mathlib.Omega.{arith}
-use borrow.Author.Rules.{rules}
 use lib.ListN.{length-set}
 use Rattle.run_naming.proofs.NameLogs.{logs_none, logs_named}
 use Rattle.run_naming.proofs.log_name.Goals as goal

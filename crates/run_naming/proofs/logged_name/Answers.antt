@@ -1,10 +1,7 @@
-use Prim.Native.Nat.{◌≤◌}
 use mathlib.Core.Path.{◌∙◌}
 use native.Mathlib.Omega.{arith}
 use borrow.Author.Rules.{rules}
-use Rattle.run_definition.specs.Equations.{NamesLog}
-use Rattle.run_walk.specs.Running.{Logged}
-use Rattle.run_naming.proofs.NameLogs.{LeftOf, left_all, left_none, left_two, left_number, left_found, left_later}
+use Rattle.run_naming.proofs.NameLogs.{left_all, left_none, left_two, left_number, left_found, left_later}
 use Rattle.run_naming.proofs.logged_name.Goals as goal
 
 pub loop-k-init : goal.loop-k-init

@@ -1,11 +1,8 @@
 -- The loop's invariant: what is left of the log has the same newest name.
 use Prim.Native.Nat.{◌≤◌}
-use mathlib.Core.Path.{◌∙◌}
-use native.Mathlib.Omega.{arith}
-use borrow.Author.Rules.{rules}
 use Rattle.run_definition.specs.Equations.{NamesLog}
 use Rattle.run_walk.specs.Running.{Logged}
-use Rattle.run_naming.proofs.NameLogs.{LeftOf, left_all, left_none, left_two, left_number, left_found, left_later}
+use Rattle.run_naming.proofs.NameLogs.{LeftOf}
 use Rattle.run_naming.proofs.logged_name.Given as goal
 
 abbrev pub invariant-loop-k : goal.invariant-loop-k

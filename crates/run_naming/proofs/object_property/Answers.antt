@@ -1,4 +1,3 @@
-use borrow.Author.Rules.{rules}
 use Rattle.run_naming.proofs.Patterns.{item_asked, named_asked, named_generates, other_generates}
 use Rattle.run_naming.proofs.object_property.Goals as goal
 

@@ -1,5 +1,4 @@
 use native.Mathlib.Omega.{arith}
-use borrow.Author.Rules.{rules}
 use Rattle.run_walk.proofs.Composing.{own_fits}
 use Rattle.run_naming.proofs.Accessing.{names_known, access_asked, countable, property_generates}
 use Rattle.run_naming.proofs.property.Goals as goal

@@ -1,5 +1,4 @@
 use native.Mathlib.Omega.{arith}
-use borrow.Author.Rules.{rules}
 use Rattle.run_naming.proofs.Accessing.{words_inside, lvalue_asked, load_asked, load_generates}
 use Rattle.run_naming.proofs.property_load.Goals as goal
 

@@ -1,5 +1,4 @@
 use native.Mathlib.Omega.{arith}
-use borrow.Author.Rules.{rules}
 use Rattle.run_walk.proofs.Composing.{next_fits}
 use Rattle.run_naming.proofs.Accessing.{words_inside, store_asked, store_generates, store_spent}
 use Rattle.run_naming.proofs.property_store.Goals as goal

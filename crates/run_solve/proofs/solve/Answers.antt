@@ -1,5 +1,4 @@
 use native.Mathlib.Omega.{arith}
-use borrow.Author.Rules.{rules}
 use Rattle.run_solve.proofs.Lending.{sizes}
 use Rattle.run_solve.proofs.WholeRun.{begun, bindings_inside, lay_asked, ready, generate_stops, applying, apply_stops, answer_asked, run_finishes}
 use Rattle.run_solve.proofs.solve.Goals as goal

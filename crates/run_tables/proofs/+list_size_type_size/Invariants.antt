@@ -1,9 +1,6 @@
-use native.Mathlib.Omega.{arith}
-use mathlib.Core.Path.{refl}
-use Prim.Native.Nat.{ℕ, ◌<◌, ◌+◌, ◌*◌, ◌-◌}
+use Prim.Native.Nat.{◌+◌, ◌*◌, ◌-◌}
 use Rattle.run_tables.specs.Writing.{counting}
-use Rattle.run_tables.proofs.Sinks.{counting_lawful}
-use Rattle.run_tables.proofs.Emitting.{asked_stands, asked_alone, emits_alone, room_func, asks_func, emits_func, room_phi, asks_phi, emits_phi, Listed, listed_none, listed_next, listed_more, listed_end}
+use Rattle.run_tables.proofs.Emitting.{Listed}
 use Rattle.run_tables.proofs.+list_size_type_size.Given as goal
 
 abbrev pub decreases-list_size : goal.decreases-list_size

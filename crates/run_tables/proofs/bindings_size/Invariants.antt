@@ -1,11 +1,6 @@
-use native.Mathlib.Omega.{arith}
-use borrow.Author.Rules.{rules}
-use mathlib.Core.Path.{refl}
-use mathlib.Core.Logic.{⊎_elim}
 use Prim.Native.Nat.{◌-◌}
 use Rattle.run_tables.specs.Writing.{counting}
-use Rattle.run_tables.proofs.Sinks.{counting_lawful}
-use Rattle.run_tables.proofs.EmittedRows.{Passed, passed_none, passed_free, room_bound, asks_bound, passed_bound, passed_end, Counted, counted_none, counted_free, counted_bound, counted_end}
+use Rattle.run_tables.proofs.EmittedRows.{Passed, Counted}
 use Rattle.run_tables.proofs.bindings_size.Given as goal
 
 abbrev pub invariant-loop-k : goal.invariant-loop-k

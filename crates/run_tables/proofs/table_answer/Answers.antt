@@ -1,4 +1,3 @@
-use borrow.Author.Rules.{rules}
 use Rattle.run_tables.proofs.Finishing.{too_long, long_enough}
 use Rattle.run_tables.proofs.table_answer.Goals as goal
 

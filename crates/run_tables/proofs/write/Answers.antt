@@ -1,6 +1,5 @@
 use native.Mathlib.Omega.{arith}
 use mathlib.Core.Path.{ap}
-use borrow.Author.Rules.{rules}
 use Rattle.run_tables.specs.Writing.{Target}
 use Rattle.run_tables.proofs.Sinks.{writing_lawful}
 use Rattle.run_tables.proofs.Finishing.{asks_types, asks_made, asks_bindings, emits_tables}

@@ -1,10 +1,6 @@
 use native.Mathlib.Omega.{arith}
-use borrow.Author.Rules.{rules}
-use mathlib.Core.Logic.{⊎_elim}
-use Prim.Native.Nat.{◌-◌}
-use Rattle.run_tables.specs.Writing.{writing, table}
 use Rattle.run_tables.proofs.Sinks.{writing_lawful}
-use Rattle.run_tables.proofs.EmittedRows.{Passed, passed_none, passed_free, room_bound, asks_bound, passed_bound, passed_end, passed_length}
+use Rattle.run_tables.proofs.EmittedRows.{passed_none, passed_free, room_bound, asks_bound, passed_bound, passed_end, passed_length}
 use Rattle.run_tables.proofs.write_bindings.Goals as goal
 use Rattle.run_tables.proofs.write_bindings.Goals.{else-b-ne0, then-b-ne0}
 

@@ -1,8 +1,5 @@
-use native.Mathlib.Omega.{arith}
-use Prim.Native.Nat.{◌-◌}
-use Rattle.run_tables.specs.Writing.{writing, table}
 use Rattle.run_tables.proofs.Sinks.{writing_lawful}
-use Rattle.run_tables.proofs.EmittedRows.{Filled, filled_none, filled_room, filled_more, filled_end, filled_length}
+use Rattle.run_tables.proofs.EmittedRows.{filled_none, filled_room, filled_more, filled_end, filled_length}
 use Rattle.run_tables.proofs.write_made.Goals as goal
 
 pub loop-k-init : goal.loop-k-init

@@ -1,8 +1,6 @@
-use native.Mathlib.Omega.{arith}
 use Prim.Native.Nat.{◌-◌}
 use Rattle.run_tables.specs.Writing.{writing, table}
-use Rattle.run_tables.proofs.Sinks.{writing_lawful}
-use Rattle.run_tables.proofs.EmittedRows.{Filled, filled_none, filled_room, filled_more, filled_end, filled_length}
+use Rattle.run_tables.proofs.EmittedRows.{Filled}
 use Rattle.run_tables.proofs.write_made.Given as goal
 
 abbrev pub invariant-loop-k : goal.invariant-loop-k

@@ -1,4 +1,3 @@
-use borrow.Author.Rules.{rules}
 use Rattle.run_walk.proofs.Equating.{equates_kept, equal_calls, equates}
 use Rattle.run_walk.proofs.equal.Goals as goal
 

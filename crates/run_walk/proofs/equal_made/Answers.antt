@@ -1,5 +1,4 @@
 use native.Mathlib.Omega.{arith}
-use borrow.Author.Rules.{rules}
 use mathlib.Core.Path.{◌∙◌}
 use Rattle.unifier_nodes.proofs.Words.{wrote, node_length}
 use Rattle.run_walk.proofs.Equating.{made_spent, made_room, made_small, made_calls, equates_made}

@@ -1,4 +1,3 @@
-use borrow.Author.Rules.{rules}
 use Rattle.unifier_properties.specs.Lookup.{lookup_number}
 use Rattle.unifier.proofs.access.number_of.Goals as goal
 

@@ -1,5 +1,4 @@
 use mathlib.Core.Path.{refl}
-use borrow.Author.Rules.{rules}
 use Rattle.unifier_properties.proofs.Answers.{looked_up}
 use Rattle.unifier_nodes.proofs.Getting.{known_stands, room_charged}
 use Rattle.unifier.proofs.Unifying.{known_right}

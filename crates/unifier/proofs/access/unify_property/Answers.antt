@@ -1,7 +1,6 @@
 use mathlib.Core.Path.{◌∙◌}
 use Prim.Native.Nat.{◌-◌}
 use native.Mathlib.Omega.{arith}
-use borrow.Author.Rules.{rules}
 use Rattle.unifier.proofs.Unifying.{known_right}
 use Rattle.unifier.proofs.Accesses.{access_spent, access_ref, access_refused, access_found, asked_room, asked_later}
 use Rattle.unifier.proofs.access.unify_property.Goals as goal

@@ -5,7 +5,7 @@ use Rattle.unifier.proofs.Accesses.{ref_asked, ref_refused, ref_known, ref_both}
 use Rattle.unifier.proofs.access.unify_ref.Goals as goal
 
 pub unify-s-requires : goal.unify-s-requires
-unify-s-requires c =  record { room = room_charged c.requires.room; known_both = ref_asked c.requires.refs_laid c.requires.known_both }
+unify-s-requires c = record { room = room_charged c.requires.room; known_both = ref_asked c.requires.refs_laid c.requires.known_both }
 
 pub shape_of-w-then-refused-ne0 : goal.shape_of-w-then-refused-ne0
 shape_of-w-then-refused-ne0 c = c.unify-s.ensures.binds.keeps.frame.len

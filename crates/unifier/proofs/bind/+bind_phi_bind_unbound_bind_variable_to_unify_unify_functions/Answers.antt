@@ -1,7 +1,6 @@
-use borrow.Author.Rules.{rules}
 use native.Mathlib.Omega.{arith}
 use mathlib.Core.Path.{refl, ◌∙◌}
-use Prim.Native.Nat.{ℕ, ◌<◌, ◌+◌, ◌*◌, ◌-◌}
+use Prim.Native.Nat.{◌-◌}
 use Rattle.unifier_nodes.proofs.Frames.{room_left}
 use Rattle.unifier.proofs.Binding.{keeps_room}
 use Rattle.unifier.proofs.Checked.{room_fits, room_less, known_low}

@@ -1,5 +1,4 @@
 use native.Mathlib.Omega.{arith}
-use borrow.Author.Rules.{rules}
 use Rattle.unifier.proofs.Checked.{room_fits, known_low, room_less, yes_fewer, no_fewer, checked_spent, checked_yes, checked_no}
 use Rattle.unifier_resolve.proofs.Occurring.{known_readable}
 use Rattle.unifier.proofs.bind.bind_checked.Goals as goal

@@ -1,5 +1,4 @@
 use native.Mathlib.Omega.{arith}
-use borrow.Author.Rules.{rules}
 use Rattle.unifier.proofs.Checked.{room_fits, known_low, rewrites_known, rewrites_room, resolved_spent, resolved_cycle, resolved_put}
 use Rattle.unifier_nodes.proofs.Getting.{known_stands}
 use Rattle.unifier.proofs.bind.bind_resolved.Goals as goal

@@ -1,10 +1,6 @@
-use borrow.Author.Rules.{rules}
-use borrow.Author.Tests.{not-true, not-false}
 use native.Mathlib.Omega.{arith}
-use mathlib.Core.Logic.{⊎_elim}
 use mathlib.Core.Path.{◌∙◌}
-use Prim.Native.Nat.{◌-◌}
-use Rattle.unifier.proofs.Candidates.{Choosing, choosing_start, chosen_all, choosing_low, choosing_room, choosing_known, chosen_spent, choosing_both, choosing_same, choosing_union, chosen_none}
+use Rattle.unifier.proofs.Candidates.{choosing_start, chosen_all, choosing_low, choosing_room, choosing_known, chosen_spent, choosing_both, choosing_same, choosing_union, chosen_none}
 use Rattle.unifier.proofs.bind.phi_candidate.Goals as goal
 use Rattle.unifier.proofs.bind.phi_candidate.Goals.{else-not-type_equals, then-not-type_equals+in-Found}
 

@@ -1,10 +1,5 @@
-use borrow.Author.Rules.{rules}
-use borrow.Author.Tests.{not-true, not-false}
-use native.Mathlib.Omega.{arith}
-use mathlib.Core.Logic.{⊎_elim}
-use mathlib.Core.Path.{◌∙◌}
 use Prim.Native.Nat.{◌-◌}
-use Rattle.unifier.proofs.Candidates.{Choosing, choosing_start, chosen_all, choosing_low, choosing_room, choosing_known, chosen_spent, choosing_both, choosing_same, choosing_union, chosen_none}
+use Rattle.unifier.proofs.Candidates.{Choosing}
 use Rattle.unifier.proofs.bind.phi_candidate.Given as goal
 
 abbrev pub invariant-loop-k : goal.invariant-loop-k
