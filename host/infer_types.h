@@ -1,5 +1,5 @@
 /*
- * Type inference for React screens: the functions of libinfer_types.a, which `rt staticlib infer_types` writes. docs/IMAGE.md says what
+ * Type inference for React screens: the functions of libinfer_types.a, which `host/archive` writes. docs/IMAGE.md says what
  * an image is, what the tables hold and what each number means; host/c/screen.c is a whole host, host/c/batch.c one with a list,
  * host/c/listing.c one that asks why a slot has its type.
  *

@@ -1,4 +1,4 @@
-//! Where libinfer_types.a stands, which `rt staticlib infer_types` writes: the folder ARCHIVE, or the repository's.
+//! Where libinfer_types.a stands, which `host/archive` writes: the folder ARCHIVE, or the repository's.
 
 fn main() {
     let folder = std::env::var("ARCHIVE").unwrap_or_else(|_| "../../target/staticlib".into());
@@ -9,7 +9,7 @@ fn main() {
     println!("cargo:rustc-link-search=native={}", folder.display());
     if !archive.is_file() {
         eprintln!(
-            "{} is missing: run `rt staticlib infer_types` in the repository, or set ARCHIVE to its folder",
+            "{} is missing: run `host/archive` in the repository, or set ARCHIVE to its folder",
             archive.display()
         );
         std::process::exit(1);

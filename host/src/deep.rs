@@ -8,7 +8,7 @@ const TOWER: u32 = 2_047;
 /// Phis of two operands, one of them a leaf, in a type of fewer than 4,096 words written out.
 const NEST: u32 = 1_364;
 
-/// The name of the one that takes over 8 MiB of stack.
+/// The name of the deepest one, which took over 8 MiB of stack as an older toolchain compiled the library.
 pub const DEEPEST: &str = "copies of phis under get, in functions in each other";
 
 pub fn is_deepest(case: &Case) -> bool {

@@ -10,18 +10,18 @@ const OF_THREAD: usize = 1 << 18;
 
 // Frames of the compiled library, as `objdump -d libinfer_types.a` shows them; another compiler may make others.
 
-/// The check doesn't recurse: `in_large_arrays` 786,576, `check` 32,992, less than 1,000 others, rounded up.
+/// The check doesn't recurse: `in_large_arrays` 786,544, `check` 32,944, less than 1,000 others, rounded up.
 const CHECK: usize = 13 << 16;
-/// A level of `generate_function` or of `apply_function`, which take 448, and 32 to spare.
+/// A level of `generate_function` or of `apply_function`, which take 384, and 96 to spare.
 const FUNCTION: usize = 480;
-/// A level of the unifier: `try_resolve_type` 224, `get` 208, `unify` and `bind_variable_to` over a variable 272, for
-/// two steps. Every level is a step, and its node was entered by another step when it was bound or made, but for those
+/// A level of the unifier: `try_resolve_type` 160, `get` 160, counted as 224, for two steps; `unify` and
+/// `bind_variable_to` over a variable 288, for three. Every level is a step, and its node was entered by another step when it was bound or made, but for those
 /// of the one type that a walk starts from: two steps a level.
 const STEP: usize = 224 / 2;
 /// The levels of that one type, at most: its 4,096 words, two a level, and a variable.
 const TYPE: usize = 2_049 * STEP;
-/// `infer_batch` 176 or `infer_types` 112, and what both run a screen by 288; or `infer_listing` 304; `solve` 384,
-/// `instruction_types` 640, `property` 352, `bind_phi` 224, `bind_checked` 176, rounded up: with the type 57 pages.
+/// `infer_batch` 192 or `infer_types` 96, and what both run a screen by 208; or `infer_listing` 272; `solve` 320,
+/// `instruction_types` 592, `property` 208, `bind_phi` 192, `bind_checked` 112, rounded up: with the type 57 pages.
 const RUN: usize = (57 << 12) - TYPE;
 
 /// The stack bytes that a call of the library takes at most: 10 MiB with the longest image and the whole budget. A list
