@@ -2,7 +2,7 @@
 #![tactic(auto)]
 
 ghost use Rattle.std.specs.Prelude.{◌≡◌, ◌+◌, ◌≤◌, ◌<◌, length};
-ghost use Rattle.image.specs.Image.{word, width, header_place, count as count_of, offset as offset_of, cell as cell_of, limits as LimitsOf, name_at};
+ghost use Rattle.image.specs.Image.{word, width, header_place, count as count_of, offset as offset_of, cell as cell_of, limits as limits_of, name_at};
 ghost use Rattle.image.specs.Laid.{Laid, InTable, NamesInside};
 
 pub mod header;
@@ -114,7 +114,7 @@ pub fn cell(img: &[u32], t: Table, n: u32, k: usize) -> u32
 // The counts that bound the numbers in a body.
 pub fn limits_of(img: &[u32]) -> Limits
     requires { 20 ≤ length img.now }
-    ensures { result ≡ LimitsOf img.now }
+    ensures { result ≡ limits_of img.now }
 {
     Limits {
         names: count(img, Table::Names),

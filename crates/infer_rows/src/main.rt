@@ -4,7 +4,7 @@
 
 ghost use Rattle.std.specs.Prelude.{◌≤◌, ◌<◌, ◌≡◌, length};
 
-use image::{NONE, WORK_WORDS_EACH};
+use image::NONE;
 use std::io;
 
 // What lent words hold before a run.
@@ -163,7 +163,7 @@ fn run_text(
     let image = image_of(text);
     let words = image.words;
     let n = image.len;
-    let enough = WORK_WORDS_EACH * (n + lent.budget as usize);
+    let enough = 8 * (n + lent.budget as usize);
     let w = least(enough - least(lent.fewer, enough), work.len());
     let mut tables = [0u32; 64];
     let t = least(lent.tables, 64);

@@ -40,7 +40,7 @@ fn is_listed(w: &[u32], lay: Layout, n: u32, x: TypeId) -> bool
 }
 
 // The variables of a type put at the end of those pending, the leftmost last: it is the next. Gives their new end.
-#[cycle(push_operands_push_variables)]
+#[cycle(pushes)]
 fn push_variables(w: &mut [u32], lo: u32, n: u32, end: u32) -> u32
     requires { PushAsked w.old lo n end }
     ensures { Pushes w.old w.new lo n end result }
@@ -60,7 +60,7 @@ fn push_variables(w: &mut [u32], lo: u32, n: u32, end: u32) -> u32
 }
 
 // The same of a list of nodes below last, from right to left.
-#[cycle(push_operands_push_variables)]
+#[cycle(pushes)]
 fn push_operands(w: &mut [u32], lo: u32, last: u32, at: u32, count: u32, from: u32) -> u32
     requires { PushAllAsked w.old lo last at count from }
     ensures { PushesAll w.old w.new lo last at count from result }

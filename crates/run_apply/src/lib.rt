@@ -109,7 +109,7 @@ fn apply_context(img: &[u32], w: &mut [u32], lay: Layout, g0: Pass, from: usize,
 }
 
 // The context of an inner function, and its body.
-#[cycle(apply_block_apply_blocks_apply_function_apply_inner_apply_instruction_apply_instructions)]
+#[cycle(application)]
 fn apply_inner(img: &[u32], w: &mut [u32], lay: Layout, g: Pass, f: u32) -> Pass
     requires passing { Passing img.now w.old lay g }
     requires f_bound { f < count Table.Functions img.now }
@@ -121,7 +121,7 @@ fn apply_inner(img: &[u32], w: &mut [u32], lay: Layout, g: Pass, f: u32) -> Pass
 }
 
 // Lvalue, items, and the function that a FunctionExpression or an ObjectMethod names.
-#[cycle(apply_block_apply_blocks_apply_function_apply_inner_apply_instruction_apply_instructions)]
+#[cycle(application)]
 fn apply_instruction(img: &[u32], w: &mut [u32], lay: Layout, g: Pass, f: u32, at: usize) -> Pass
     requires passing { Passing img.now w.old lay g }
     requires instruction_of_fits { InstructionOfFits img.now f at }
@@ -137,7 +137,7 @@ fn apply_instruction(img: &[u32], w: &mut [u32], lay: Layout, g: Pass, f: u32, a
     }
 }
 
-#[cycle(apply_block_apply_blocks_apply_function_apply_inner_apply_instruction_apply_instructions)]
+#[cycle(application)]
 fn apply_instructions(
     img: &[u32],
     w: &mut [u32],
@@ -176,7 +176,7 @@ fn apply_phis(img: &[u32], w: &mut [u32], lay: Layout, g0: Pass, from: usize, n:
     g
 }
 
-#[cycle(apply_block_apply_blocks_apply_function_apply_inner_apply_instruction_apply_instructions)]
+#[cycle(application)]
 fn apply_block(img: &[u32], w: &mut [u32], lay: Layout, g: Pass, f: u32, at: usize) -> Pass
     requires passing { Passing img.now w.old lay g }
     requires block_fits { BlockFits img.now f at }
@@ -187,7 +187,7 @@ fn apply_block(img: &[u32], w: &mut [u32], lay: Layout, g: Pass, f: u32, at: usi
     apply_instructions(img, w, lay, h, f, a + 1, img[a])
 }
 
-#[cycle(apply_block_apply_blocks_apply_function_apply_inner_apply_instruction_apply_instructions)]
+#[cycle(application)]
 fn apply_blocks(
     img: &[u32],
     w: &mut [u32],
@@ -210,7 +210,7 @@ fn apply_blocks(
     g
 }
 
-#[cycle(apply_block_apply_blocks_apply_function_apply_inner_apply_instruction_apply_instructions)]
+#[cycle(application)]
 fn apply_function(img: &[u32], w: &mut [u32], lay: Layout, g: Pass, f: u32) -> Pass
     requires passing { Passing img.now w.old lay g }
     requires f_bound { f < count Table.Functions img.now }

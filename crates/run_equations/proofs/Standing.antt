@@ -23,7 +23,7 @@ pub record Standing (img : List ℕ) (lay : Layout) (a : ℕ) (t : Ty) : Type 0 
   pub rep : (w : List ℕ) (g : Walk) → Solving img w lay g → Rep w lay.lo g.top a t
 
 module _ {img : List ℕ} {lay : Layout} where
-  -- the Primitive, the ObjectMethod, the Object of a shape up to REF-VALUE
+  -- the Primitive, the ObjectMethod, the Object of a shape up to REF_VALUE
   pub prim_stands : Standing img lay lay.own prim
   prim_stands = record { rep = λ w g s. prim_rep s }
 

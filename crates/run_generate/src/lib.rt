@@ -86,7 +86,7 @@ fn instruction_types(
 }
 
 // An inner function, with a stretch of the names log of its own.
-#[cycle(generate_block_generate_blocks_generate_function_generate_instruction_generate_instructions_inner)]
+#[cycle(generation)]
 fn inner(img: &[u32], bytes: &[u8], w: &mut [u32], lay: Layout, g: Walk, f: u32) -> Walk
     requires { FunctionReady img.now bytes.now w.old lay g f }
     ensures { GeneratesInner img.now bytes.now w.old w.new lay f g result }
@@ -97,7 +97,7 @@ fn inner(img: &[u32], bytes: &[u8], w: &mut [u32], lay: Layout, g: Walk, f: u32)
 }
 
 // The function that an instruction names, then its own equations.
-#[cycle(generate_block_generate_blocks_generate_function_generate_instruction_generate_instructions_inner)]
+#[cycle(generation)]
 fn generate_instruction(
     img: &[u32],
     bytes: &[u8],
@@ -125,7 +125,7 @@ fn generate_instruction(
 }
 
 // n instructions from a position on.
-#[cycle(generate_block_generate_blocks_generate_function_generate_instruction_generate_instructions_inner)]
+#[cycle(generation)]
 fn generate_instructions(
     img: &[u32],
     bytes: &[u8],
@@ -174,7 +174,7 @@ fn generate_phis(img: &[u32], w: &mut [u32], lay: Layout, g0: Walk, from: usize,
 }
 
 // Phis, then instructions.
-#[cycle(generate_block_generate_blocks_generate_function_generate_instruction_generate_instructions_inner)]
+#[cycle(generation)]
 fn generate_block(
     img: &[u32],
     bytes: &[u8],
@@ -197,7 +197,7 @@ fn generate_block(
     generate_instructions(img, bytes, w, lay, h, f, stretch, a + 1, img[a])
 }
 
-#[cycle(generate_block_generate_blocks_generate_function_generate_instruction_generate_instructions_inner)]
+#[cycle(generation)]
 fn generate_blocks(
     img: &[u32],
     bytes: &[u8],
@@ -226,7 +226,7 @@ fn generate_blocks(
 }
 
 // Parameters, blocks with a names log of their own, returns.
-#[cycle(generate_block_generate_blocks_generate_function_generate_instruction_generate_instructions_inner)]
+#[cycle(generation)]
 fn generate_function(img: &[u32], bytes: &[u8], w: &mut [u32], lay: Layout, g: Walk, f: u32) -> Walk
     requires { FunctionReady img.now bytes.now w.old lay g f }
     ensures { Generates (λ ns k. generate_for (program img.now bytes.now) f k) img.now bytes.now w.old w.new lay g.log g result }

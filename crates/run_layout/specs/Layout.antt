@@ -25,7 +25,7 @@ layout_of img budget =
     let log = stack + budget in
     record { slots = count Slots img; lo = lo; lists = lists; places = places; returns = returns; own = own; top = top; stack = stack; log = log; entries = log + 2 * budget }
 
--- the nodes that are there from the start: Primitive, ObjectMethod, and the Object of each shape up to REF-VALUE
+-- the nodes that are there from the start: Primitive, ObjectMethod, and the Object of each shape up to REF_VALUE
 pub record OwnLaid (w : List ℕ) (lo top own : ℕ) : Type 0 where
   pub prim_node : Rep w lo top own prim
   pub method_node : Rep w lo top (own + 3) method

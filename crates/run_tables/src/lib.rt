@@ -22,7 +22,7 @@ struct Size {
 }
 
 // A type's words, added to those so far.
-#[cycle(list_size_type_size)]
+#[cycle(type_sizes)]
 pub fn type_size(w: &[u32], lo: u32, n: u32, words: u32) -> u32
     requires { Asks counting w.now lo n words }
     ensures { Emits counting w.now lo n words result }
@@ -39,7 +39,7 @@ pub fn type_size(w: &[u32], lo: u32, n: u32, words: u32) -> u32
 }
 
 // The same of a list of nodes below last.
-#[cycle(list_size_type_size)]
+#[cycle(type_sizes)]
 fn list_size(w: &[u32], lo: u32, last: u32, at: u32, count: u32, start: u32) -> u32
     requires { AsksRow counting w.now lo last at count start }
     ensures { EmitsRow counting w.now lo last at count start result }
@@ -98,7 +98,7 @@ pub fn put_two(t: &mut [u32], at: usize, x: u32, y: u32) -> usize
     at + 2
 }
 
-#[cycle(write_list_write_type)]
+#[cycle(type_writes)]
 pub fn write_type(w: &[u32], lo: u32, n: u32, t: &mut [u32], at: usize) -> usize
     requires { Asks writing w.now lo n (table t.old at) }
     ensures { Emits writing w.now lo n (table t.old at) (table t.new result) }
@@ -121,7 +121,7 @@ pub fn write_type(w: &[u32], lo: u32, n: u32, t: &mut [u32], at: usize) -> usize
 }
 
 // The same of a list of nodes below last.
-#[cycle(write_list_write_type)]
+#[cycle(type_writes)]
 fn write_list(
     w: &[u32],
     lo: u32,

@@ -447,7 +447,7 @@ module _ {img w : List ℕ} {lay : Layout} {g : Walk} (s : Solving img w lay g) 
   pub method_rep : Rep w lay.lo g.top (lay.own + 3) method
   method_rep = s.prepared.own.method_node
 
-  -- the Object of a shape up to REF-VALUE
+  -- the Object of a shape up to REF_VALUE
   pub object_rep : (shape : ℕ) → shape < 8 → Rep w lay.lo g.top (lay.own + 6 + 3 * shape) (object shape)
   object_rep shape l = s.prepared.own.object_node shape l
 

@@ -32,7 +32,7 @@ unify_access ref_like reg name σ zero t u = refused out_of_steps 0 σ
 unify_access true reg name σ (suc s) t u = unify_as_ref σ s t u
 unify_access false reg name σ (suc s) t u = and_then (get σ s u) (λ o s₁. unify_by_name reg name σ s₁ t o)
 
--- the Objects of USE-REF and REF-VALUE stand at theirs
+-- the Objects of USE_REF and REF_VALUE stand at theirs
 pub record RefsLaid (w : List ℕ) (top : ℕ) (p : Places) : Type 0 where
   pub use_ref : Rep w p.lo top p.use_ref (object USE_REF)
   pub ref_value : Rep w p.lo top p.ref_value (object REF_VALUE)

@@ -15,7 +15,7 @@ use unifier_nodes::state::{Occurs, State, refuse};
 use unifier_resolve::{get, occurs_check, try_resolve_type};
 
 // The two types are made one.
-#[cycle(bind_phi_bind_unbound_bind_variable_to_unify_unify_functions)]
+#[cycle(unification)]
 pub fn unify(w: &mut [u32], lo: u32, st: State, a: u32, b: u32) -> State
     requires room { Room w.old st.top (st.left - 1) st.stack }
     requires known_both { KnownBoth w.old lo st.top a b }
@@ -39,7 +39,7 @@ pub fn unify(w: &mut [u32], lo: u32, st: State, a: u32, b: u32) -> State
 }
 
 // The return types of two Functions, if both are constructors or neither is.
-#[cycle(bind_phi_bind_unbound_bind_variable_to_unify_unify_functions)]
+#[cycle(unification)]
 fn unify_functions(w: &mut [u32], lo: u32, st: State, a: u32, b: u32) -> State
     requires room { Room w.old st.top st.left st.stack }
     requires known_both { KnownBoth w.old lo st.top a b }
@@ -59,7 +59,7 @@ fn unify_functions(w: &mut [u32], lo: u32, st: State, a: u32, b: u32) -> State
 }
 
 // The variable gets the type as its binding; where it has one, the two are unified.
-#[cycle(bind_phi_bind_unbound_bind_variable_to_unify_unify_functions)]
+#[cycle(unification)]
 pub fn bind_variable_to(w: &mut [u32], lo: u32, st: State, v: u32, ty: u32) -> State
     requires room { Room w.old st.top st.left st.stack }
     requires known_both { KnownBoth w.old lo st.top v ty }
@@ -84,7 +84,7 @@ pub fn bind_variable_to(w: &mut [u32], lo: u32, st: State, v: u32, ty: u32) -> S
 }
 
 // The variable has no binding.
-#[cycle(bind_phi_bind_unbound_bind_variable_to_unify_unify_functions)]
+#[cycle(unification)]
 fn bind_unbound(w: &mut [u32], lo: u32, st: State, slot: TypeId, ty: u32) -> State
     requires room { Room w.old st.top st.left st.stack }
     requires known { Known w.old lo st.top ty }
@@ -157,7 +157,7 @@ fn phi_candidate(w: &mut [u32], lo: u32, st0: State, first: u32, at: u32, count:
 }
 
 // The same where the type is this Phi. Its frame is its own, so that the other entries of the cycle have small ones.
-#[cycle(bind_phi_bind_unbound_bind_variable_to_unify_unify_functions)]
+#[cycle(unification)]
 #[inline(never)]
 fn bind_phi(w: &mut [u32], lo: u32, st: State, slot: TypeId, ty: u32, at: u32, count: u32) -> State
     requires room { Room w.old st.top st.left st.stack }

@@ -1,6 +1,6 @@
 -- `get`, `occurs_check` and `try_resolve_type` of infer_types.rs, as total functions. Assumes nothing.
--- σ is the substitution and s the steps left. Each charged function has three parts: NAME-body, the text after the charge, whose own
--- charged calls go to the functions that it is given; NAME-fuel, which ties the knot by a depth; and NAME, with the steps left as
+-- σ is the substitution and s the steps left. Each charged function has three parts: NAME_body, the text after the charge, whose own
+-- charged calls go to the functions that it is given; NAME_fuel, which ties the knot by a depth; and NAME, with the steps left as
 -- the depth. Each call takes one of both, so that where the depth ends no step is left.
 use Rattle.std.specs.Prelude.{ℕ, zero, suc, Bool, true, false}
 use Rattle.std.proofs.Math.Option.{none, some}

@@ -156,7 +156,7 @@ pub fn try_union_types(w: &[u32], lo: u32, a: u32, b: u32) -> Candidate
 }
 
 // Whether the type mentions the variable.
-#[cycle(mentions_mentions_any)]
+#[cycle(mention)]
 pub fn mentions(w: &[u32], lo: u32, n: u32, v: TypeId) -> bool
     requires { Stands w.now lo n }
     ensures { TellsMention w.now lo n v.0 result }
@@ -173,7 +173,7 @@ pub fn mentions(w: &[u32], lo: u32, n: u32, v: TypeId) -> bool
 }
 
 // Whether one of the operands does, which are nodes below last.
-#[cycle(mentions_mentions_any)]
+#[cycle(mention)]
 fn mentions_any(w: &[u32], lo: u32, last: u32, at: u32, count: u32, v: TypeId) -> bool
     requires { StandAll w.now lo last at count }
     ensures { TellsMentionAll w.now lo last at count v.0 result }

@@ -92,7 +92,7 @@ fn made_phi(w: &mut [u32], g: Got, stack: u32) -> Got
 }
 
 // The type with what its variables are bound to put in.
-#[cycle(get_get_all)]
+#[cycle(substitution)]
 pub fn get(w: &mut [u32], lo: u32, st: State, n: u32) -> Got
     requires room { Room w.old st.top st.left st.stack }
     requires known { Known w.old lo st.top n }
@@ -134,7 +134,7 @@ pub fn get(w: &mut [u32], lo: u32, st: State, n: u32) -> Got
 }
 
 // get of each operand; the results are put with the operands in hand, and counted.
-#[cycle(get_get_all)]
+#[cycle(substitution)]
 fn get_all(w: &mut [u32], lo: u32, st: State, at: u32, count: u32) -> Got
     requires room { Room w.old st.top st.left st.stack }
     requires known_all { KnownAll w.old lo st.top at count }
@@ -170,7 +170,7 @@ fn get_all(w: &mut [u32], lo: u32, st: State, at: u32, count: u32) -> Got
 }
 
 // Whether the variable stands in the type, through bindings.
-#[cycle(occurs_any_occurs_check)]
+#[cycle(occurrence)]
 pub fn occurs_check(w: &[u32], lo: u32, left: u32, v: TypeId, n: u32) -> Occurs
     requires { Readable w.now lo n }
     ensures { Checks w.now lo left v.0 n result }
@@ -198,7 +198,7 @@ pub fn occurs_check(w: &[u32], lo: u32, left: u32, v: TypeId, n: u32) -> Occurs
     }
 }
 
-#[cycle(occurs_any_occurs_check)]
+#[cycle(occurrence)]
 fn occurs_any(w: &[u32], lo: u32, left: u32, v: TypeId, at: u32, count: u32) -> Occurs
     requires { ReadableAll w.now lo at count }
     ensures { ChecksAll w.now lo left v.0 at count result }
@@ -224,7 +224,7 @@ fn occurs_any(w: &[u32], lo: u32, left: u32, v: TypeId, at: u32, count: u32) -> 
 }
 
 // The type without v as an operand of its Phis; each bound variable on the way is bound anew, to what it was resolved to.
-#[cycle(resolve_all_resolve_got_resolve_variable_try_resolve_type)]
+#[cycle(resolution)]
 pub fn try_resolve_type(w: &mut [u32], lo: u32, st: State, v: TypeId, n: u32) -> Got
     requires room { Room w.old st.top st.left st.stack }
     requires known { Known w.old lo st.top n }
@@ -265,7 +265,7 @@ pub fn try_resolve_type(w: &mut [u32], lo: u32, st: State, v: TypeId, n: u32) ->
 }
 
 // try_resolve_type of what get gave.
-#[cycle(resolve_all_resolve_got_resolve_variable_try_resolve_type)]
+#[cycle(resolution)]
 fn resolve_got(w: &mut [u32], lo: u32, g: Got, stack: u32, v: TypeId) -> Got
     requires room { Room w.old g.top g.left stack }
     requires known { g.refused ≡ 0 → Known w.old lo g.top g.node }
@@ -288,7 +288,7 @@ fn resolve_got(w: &mut [u32], lo: u32, g: Got, stack: u32, v: TypeId) -> Got
 }
 
 // What get gave for the Var of s; if that is another type, s is bound to what it resolves to.
-#[cycle(resolve_all_resolve_got_resolve_variable_try_resolve_type)]
+#[cycle(resolution)]
 fn resolve_variable(w: &mut [u32], lo: u32, g: Got, stack: u32, v: TypeId, s: TypeId) -> Got
     requires room { Room w.old g.top g.left stack }
     requires known { g.refused ≡ 0 → Known w.old lo g.top g.node }
@@ -312,7 +312,7 @@ fn resolve_variable(w: &mut [u32], lo: u32, g: Got, stack: u32, v: TypeId, s: Ty
 }
 
 // try_resolve_type of each operand but v; the results are put with the operands in hand, and counted.
-#[cycle(resolve_all_resolve_got_resolve_variable_try_resolve_type)]
+#[cycle(resolution)]
 fn resolve_all(w: &mut [u32], lo: u32, st: State, v: TypeId, at: u32, count: u32) -> Got
     requires room { Room w.old st.top st.left st.stack }
     requires known_all { KnownAll w.old lo st.top at count }

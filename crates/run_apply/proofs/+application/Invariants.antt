@@ -1,6 +1,6 @@
 use Prim.Native.Nat.{◌+◌, ◌*◌, ◌-◌}
 use Rattle.run_apply.proofs.ApplyLoops.{Left, instructions_course, blocks_course}
-use Rattle.run_apply.proofs.+apply_block_apply_blocks_apply_function_apply_inner_apply_instruction_apply_instructions.Given as goal
+use Rattle.run_apply.proofs.+application.Given as goal
 
 abbrev pub decreases-apply_block : goal.decreases-apply_block
 decreases-apply_block l = 6 * (65536 - l.f) + 2

@@ -1,5 +1,5 @@
 use Prim.Native.Nat.{◌+◌, ◌*◌}
-use Rattle.unifier.proofs.bind.+bind_phi_bind_unbound_bind_variable_to_unify_unify_functions.Given as goal
+use Rattle.unifier.proofs.bind.+unification.Given as goal
 
 abbrev pub decreases-bind_phi : goal.decreases-bind_phi
 decreases-bind_phi l = 2 * l.st.left

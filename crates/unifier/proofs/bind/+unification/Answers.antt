@@ -8,7 +8,7 @@ use Rattle.unifier_nodes.proofs.Getting.{known_stands, room_charged}
 use Rattle.unifier.proofs.Unifying.{unify_spent, unify_same, unify_left, unify_right, unify_neither, functions_first, functions_second, functions_differ, functions_same, known_returns, bind_spent, bind_no_var, bind_poly, bind_bound, bind_free, unbound_bound, unbound_free, unbound_plain, known_left, known_right, known_swap, stand_both, var_low, known_bound, known_slot_bound}
 use Rattle.unifier.proofs.Phis.{operand_known, phi_empty, phi_spent, first_known, chooses_keeps, phi_stopped, phi_found, found_known, phi_none, none_known}
 use borrow.Enum.Refused.{opened}
-use Rattle.unifier.proofs.bind.+bind_phi_bind_unbound_bind_variable_to_unify_unify_functions.Goals as goal
+use Rattle.unifier.proofs.bind.+unification.Goals as goal
 
 pub bind_phi-returns-then-count-eq0 : goal.bind_phi-returns-then-count-eq0
 bind_phi-returns-then-count-eq0 t c =

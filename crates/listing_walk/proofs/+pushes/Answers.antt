@@ -1,6 +1,6 @@
 use native.Mathlib.Omega.{arith}
 use Rattle.listing_walk.proofs.Pushing.{pushed_none, pushed_one, asked_stands, room_alone, pushes_alone, asks_func, pushes_func, asks_phi, pushes_phi, pushing_none, next_operand, pushing_more, pushing_end, pushing_length}
-use Rattle.listing_walk.proofs.+push_operands_push_variables.Goals as goal
+use Rattle.listing_walk.proofs.+pushes.Goals as goal
 
 pub push_operands-loop-k-init : goal.push_operands-loop-k-init
 push_operands-loop-k-init t c = pushing_none c.requires

@@ -1,6 +1,6 @@
 use native.Mathlib.Omega.{arith}
 use Rattle.unifier_nodes.proofs.Mentioning.{tells_var, tells_plain, tells_func, tells_phi, stands_func, stands_phi, seeking_none, seeking_next, seeking_found, seeking_more, seeking_end}
-use Rattle.unifier_nodes.proofs.node.+mentions_mentions_any.Goals as goal
+use Rattle.unifier_nodes.proofs.node.+mention.Goals as goal
 
 pub mentions-node_at-requires : goal.mentions-node_at-requires
 mentions-node_at-requires t c = c.requires

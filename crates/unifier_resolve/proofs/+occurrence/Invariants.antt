@@ -1,6 +1,6 @@
 use Prim.Native.Nat.{◌+◌, ◌*◌, ◌-◌}
 use Rattle.unifier_resolve.proofs.Occurring.{Trying}
-use Rattle.unifier_resolve.proofs.+occurs_any_occurs_check.Given as goal
+use Rattle.unifier_resolve.proofs.+occurrence.Given as goal
 
 abbrev pub decreases-occurs_any : goal.decreases-occurs_any
 decreases-occurs_any l = 2 * l.left + 1

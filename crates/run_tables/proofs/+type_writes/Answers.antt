@@ -1,7 +1,7 @@
 use native.Mathlib.Omega.{arith}
 use Rattle.run_tables.proofs.Sinks.{writing_lawful}
 use Rattle.run_tables.proofs.Emitting.{asked_stands, asked_alone, emits_alone, room_func, asks_func, emits_func, room_phi, asks_phi, emits_phi, listed_none, listed_next, listed_more, listed_end, listed_length}
-use Rattle.run_tables.proofs.+write_list_write_type.Goals as goal
+use Rattle.run_tables.proofs.+type_writes.Goals as goal
 
 pub write_list-loop-k-init : goal.write_list-loop-k-init
 write_list-loop-k-init t c = listed_none c.requires

@@ -1,6 +1,6 @@
 use Prim.Native.Nat.{◌+◌, ◌*◌}
 use Rattle.listing_walk.proofs.Pushing.{Pushing}
-use Rattle.listing_walk.proofs.+push_operands_push_variables.Given as goal
+use Rattle.listing_walk.proofs.+pushes.Given as goal
 
 abbrev pub decreases-push_operands : goal.decreases-push_operands
 decreases-push_operands l = 2 * l.last

@@ -1,7 +1,7 @@
 use native.Mathlib.Omega.{arith}
 use Rattle.unifier_nodes.proofs.Getting.{read_as, known_stands, known_slot, known_bound, known_func, known_phi}
 use Rattle.unifier_resolve.proofs.Occurring.{readable_known, known_readable, known_readable_all, checks_none, checks_plain, checks_same, checks_free, checks_bound, checks_func, checks_phi, checks_as, trying_none, trying_ends, trying_more, trying_readable, trying_word, trying_done}
-use Rattle.unifier_resolve.proofs.+occurs_any_occurs_check.Goals as goal
+use Rattle.unifier_resolve.proofs.+occurrence.Goals as goal
 
 pub occurs_any-loop-k-init : goal.occurs_any-loop-k-init
 occurs_any-loop-k-init t c = trying_none _ _ _ _ _ _

@@ -5,7 +5,7 @@ use Rattle.run_generate.proofs.KindTable.{nested_some, nested_none}
 use Rattle.run_generate.proofs.Dispatch.{instruction_inside}
 use Rattle.run_generate.proofs.Loops.{going_none, going_one, going_more, going_stopped, going_done, instructions_row, blocks_row, generating, instructions_doing, blocks_doing, instructions_stopped, instructions_short, instructions_done}
 use Rattle.run_generate.proofs.Cycle.{ready_own, inner_done, instruction_stopped, instruction_inner, instruction_plain, instruction_ready, inner_ready, block_places, block_inside, block_instructions, block_stopped, phis_land, block_ready, block_done, function_places, component_asked, returns_asked, blocks_fit, function_stopped, function_ready, function_broken, blocks_ready, function_done}
-use Rattle.run_generate.proofs.+generate_block_generate_blocks_generate_function_generate_instruction_generate_instructions_inner.Goals as goal
+use Rattle.run_generate.proofs.+generation.Goals as goal
 
 pub generate_block-overflow_add-at : goal.generate_block-overflow_add-at
 generate_block-overflow_add-at t c = let b = block_places c.requires.1 in omega arith

@@ -2,7 +2,7 @@ use Prim.Native.Nat.{◌+◌, ◌*◌, ◌-◌}
 use Rattle.image.specs.declared.Table.TheVariants.{Functions}
 use Rattle.image.specs.Image.{count}
 use Rattle.run_generate.proofs.Loops.{Going, instructions_doing, blocks_doing}
-use Rattle.run_generate.proofs.+generate_block_generate_blocks_generate_function_generate_instruction_generate_instructions_inner.Given as goal
+use Rattle.run_generate.proofs.+generation.Given as goal
 
 abbrev pub decreases-generate_block : goal.decreases-generate_block
 decreases-generate_block l = 6 * (count Functions l.img.now - l.f) + 3

@@ -1,7 +1,7 @@
 use Prim.Native.Nat.{◌+◌, ◌*◌, ◌-◌}
 use Rattle.run_tables.specs.Writing.{writing, table}
 use Rattle.run_tables.proofs.Emitting.{Listed}
-use Rattle.run_tables.proofs.+write_list_write_type.Given as goal
+use Rattle.run_tables.proofs.+type_writes.Given as goal
 
 abbrev pub decreases-write_list : goal.decreases-write_list
 decreases-write_list l = 2 * l.last

@@ -2,7 +2,7 @@ use native.Mathlib.Omega.{arith}
 use mathlib.Core.Path.{refl}
 use Rattle.run_tables.proofs.Sinks.{counting_lawful}
 use Rattle.run_tables.proofs.Emitting.{asked_stands, asked_alone, emits_alone, room_func, asks_func, emits_func, room_phi, asks_phi, emits_phi, listed_none, listed_next, listed_more, listed_end}
-use Rattle.run_tables.proofs.+list_size_type_size.Goals as goal
+use Rattle.run_tables.proofs.+type_sizes.Goals as goal
 
 pub list_size-loop-k-init : goal.list_size-loop-k-init
 list_size-loop-k-init t c = listed_none c.requires

@@ -1,7 +1,7 @@
 use Prim.Native.Nat.{◌+◌, ◌*◌, ◌-◌}
 use Rattle.run_tables.specs.Writing.{counting}
 use Rattle.run_tables.proofs.Emitting.{Listed}
-use Rattle.run_tables.proofs.+list_size_type_size.Given as goal
+use Rattle.run_tables.proofs.+type_sizes.Given as goal
 
 abbrev pub decreases-list_size : goal.decreases-list_size
 decreases-list_size l = 2 * l.last

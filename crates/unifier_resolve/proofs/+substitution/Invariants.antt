@@ -1,6 +1,6 @@
 use Prim.Native.Nat.{◌+◌, ◌*◌, ◌-◌}
 use Rattle.unifier_nodes.proofs.GetOperands.{Walking}
-use Rattle.unifier_resolve.proofs.+get_get_all.Given as goal
+use Rattle.unifier_resolve.proofs.+substitution.Given as goal
 
 abbrev pub decreases-get : goal.decreases-get
 decreases-get l = 2 * l.st.left

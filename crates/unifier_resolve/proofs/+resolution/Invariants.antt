@@ -1,6 +1,6 @@
 use Prim.Native.Nat.{◌+◌, ◌*◌, ◌-◌}
 use Rattle.unifier_resolve.proofs.RewriteOperands.{Rewriting}
-use Rattle.unifier_resolve.proofs.+resolve_all_resolve_got_resolve_variable_try_resolve_type.Given as goal
+use Rattle.unifier_resolve.proofs.+resolution.Given as goal
 
 abbrev pub decreases-resolve_all : goal.decreases-resolve_all
 decreases-resolve_all l = 3 * l.st.left + 1

@@ -5,8 +5,8 @@ use Rattle.unifier_nodes.proofs.Frames.{room_left}
 use Rattle.unifier_nodes.proofs.Getting.{read_as, room_fits, room_charged, known_stands, known_func, known_phi}
 use Rattle.unifier_resolve.proofs.Rewriting.{rewrites_none, rewrites_plain, rewrites_var, rewrites_func, rewrites_phi, got_refused, got_resolved, variable_kept, variable_refused, variable_bound, known_got, known_low, stands_beside, resolved_low, room_resolved, room_rewritten}
 use Rattle.unifier_resolve.proofs.RewriteOperands.{rewriting_none, rewriting_skipped, rewriting_refused, rewriting_more, rewriting_done, rewriting_known, rewriting_word, rewriting_room}
-use Rattle.unifier_resolve.proofs.+resolve_all_resolve_got_resolve_variable_try_resolve_type.Goals as goal
-use Rattle.unifier_resolve.proofs.+resolve_all_resolve_got_resolve_variable_try_resolve_type.Goals.{resolve_all-else-n-v, resolve_all-then-n-v+else-refused-ne0}
+use Rattle.unifier_resolve.proofs.+resolution.Goals as goal
+use Rattle.unifier_resolve.proofs.+resolution.Goals.{resolve_all-else-n-v, resolve_all-then-n-v+else-refused-ne0}
 
 pub resolve_all-loop-k-init : goal.resolve_all-loop-k-init
 resolve_all-loop-k-init t c = rewriting_none _ _ c.args.st _ _ _

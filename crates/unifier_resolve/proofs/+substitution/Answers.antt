@@ -1,7 +1,7 @@
 use native.Mathlib.Omega.{arith}
 use Rattle.unifier_nodes.proofs.Getting.{read_as, room_fits, room_charged, gives_none, gives_plain, gives_free, gives_bound, gives_func, gives_phi, known_stands, known_slot, known_bound, known_func, known_phi, room_func, room_phi}
 use Rattle.unifier_nodes.proofs.GetOperands.{walking_none, walking_refused, walking_more, walking_done, walking_room, walking_hand, walking_known, walking_word}
-use Rattle.unifier_resolve.proofs.+get_get_all.Goals as goal
+use Rattle.unifier_resolve.proofs.+substitution.Goals as goal
 
 pub get-returns-then-left-eq0 : goal.get-returns-then-left-eq0
 get-returns-then-left-eq0 t c = rw c.spent.ensures (gives_none _ _ _ _ c.if-left-eq0.true)

@@ -8,7 +8,7 @@ use Rattle.run_apply.proofs.ApplyLaws.{laid_of, few_functions, passing_next}
 use Rattle.run_apply.proofs.ApplyLoops.{left_none, left_first, left_more, left_done, left_to, instruction_lies, instructions_turn, blocks_turn}
 use Rattle.run_apply.proofs.ApplyParts.{nested_none, nested_some, instruction_plain, instruction_naming, block_end, block_lies, block_instructions, block_parts, params_lie, returns_fit, context_fits, context_lies, blocks_lie, blocks_fit, inner_parts, function_parts}
 use native.Mathlib.Omega.{arith}
-use Rattle.run_apply.proofs.+apply_block_apply_blocks_apply_function_apply_inner_apply_instruction_apply_instructions.Goals as goal
+use Rattle.run_apply.proofs.+application.Goals as goal
 
 pub apply_block-overflow_add-at : goal.apply_block-overflow_add-at
 apply_block-overflow_add-at t c = omega (arith, block_lies c.requires.passing c.requires.block_fits refl)
