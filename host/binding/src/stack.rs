@@ -15,8 +15,8 @@ const CHECK: usize = 13 << 16;
 /// A level of `generate_function` or of `apply_function`, which take 384, and 96 to spare.
 const FUNCTION: usize = 480;
 /// A level of the unifier: `try_resolve_type` 160, `get` 160, counted as 224, for two steps; `unify` and
-/// `bind_variable_to` over a variable 288, for three. Every level is a step, and its node was entered by another step when it was bound or made, but for those
-/// of the one type that a walk starts from: two steps a level.
+/// `bind_variable_to` over a variable 288, for three. Every level is a step, and its node was entered by another step
+/// when it was bound or made, but for those of the one type that a walk starts from: two steps a level.
 const STEP: usize = 224 / 2;
 /// The levels of that one type, at most: its 4,096 words, two a level, and a variable.
 const TYPE: usize = 2_049 * STEP;
