@@ -1,235 +1,206 @@
 // Reads an image, its names and a budget from standard input, and prints what the run answers.
 #![tactic(auto)]
 
-ghost use Rattle.std.specs.Prelude.{◌≤◌, ◌<◌, ◌≡◌, length, take, IfOk};
-ghost use Rattle.std.specs.Io.KnownBytes.{Consumes, IsAtEnd};
+ghost use Rattle.std.specs.Prelude.{◌≡◌, ◌/◌, ◌*◌, ◌<◌, ◌≤◌, length, vec_len, IfOk, IfSome};
 
-use image::{WORK_WORDS_EACH, type_kinds};
-use std::io;
-use std::io::Read;
+use image::{NONE, WORK_WORDS_EACH, type_kinds};
+use infer::Answer;
+use std::alloc::{AllocError, Global};
+use std::fmt::{self, Display};
+use std::io::{self, Read};
 
 // The table words that are lent.
 const TABLE_WORDS: usize = 4096;
 
-// The most image words, name bytes and steps, the work words for these, and one byte more than the longest input.
+// The most image words, name bytes and steps, and one byte more than the longest input.
 const MOST_WORDS: usize = 1024;
 
 const MOST_BYTES: usize = 4096;
 
 const MOST_BUDGET: u32 = 1024;
 
-const MOST_WORK: usize = WORK_WORDS_EACH * (MOST_WORDS + MOST_BUDGET as usize);
-
 const MOST_INPUT: usize = 12 + 4 * MOST_WORDS + MOST_BYTES + 1;
 
-fn say(rt: &impl Print, text: &[u8]) -> io::Result<()> {
-    rt.write_all(text)
+// What an input asks for, its image in little-endian words.
+#[derive(Clone, Copy)]
+struct Request<'a> {
+    image: &'a [u8],
+    names: &'a [u8],
+    budget: u32,
+    ghost few_words: { length image.now ≤ 4096 },
+    ghost few_steps: { budget ≤ 1024 },
 }
 
-fn say_number(rt: &impl Print, text: &[u8], x: u32) -> io::Result<()> {
-    say(rt, text)?;
-    rt.print(x)
+// A little-endian word, and what follows it.
+fn split_word(input: &[u8]) -> Option<(u32, &[u8])> {
+    let (word, rest) = input.split_first_chunk()?;
+    Some((u32::from_le_bytes(*word), rest))
 }
 
-fn say_shape(rt: &impl Print, text: &[u8], shape: u32) -> io::Result<()> {
-    say(rt, text)?;
-    if shape == image::NONE {
-        say(rt, b" none")
-    } else {
-        say_number(rt, b" ", shape)
+// None if the input announces too much, or has another length than announced.
+fn request_of(input: &[u8]) -> Option<Request<'_>> {
+    let (words, rest) = split_word(input)?;
+    let (bytes, rest) = split_word(rest)?;
+    let (budget, rest) = split_word(rest)?;
+    if words as usize > MOST_WORDS || bytes as usize > MOST_BYTES || budget > MOST_BUDGET {
+        return None;
     }
-}
-
-// Prints a type's own words: its kind, and a where the kind has it.
-fn say_kind(rt: &impl Print, kind: u32, a: u32) -> io::Result<()> {
-    match kind {
-        type_kinds::VAR => say_number(rt, b" var ", a),
-        type_kinds::PRIMITIVE => say(rt, b" primitive"),
-        type_kinds::POLY => say(rt, b" poly"),
-        type_kinds::OBJECT_METHOD => say(rt, b" method"),
-        type_kinds::OBJECT => say_shape(rt, b" object", a),
-        type_kinds::FUNCTION => say_shape(rt, b" function", a),
-        type_kinds::CONSTRUCTOR => say_shape(rt, b" constructor", a),
-        _ => say_number(rt, b" phi ", a),
+    let (image, names) = rest.split_at_checked(4 * words as usize)?;
+    if names.len() != bytes as usize {
+        return None;
     }
+    Some(Request {
+        image,
+        names,
+        budget,
+    })
 }
 
-// How many types follow in a type.
-fn parts(kind: u32, a: u32) -> u32 {
-    match kind {
-        type_kinds::FUNCTION | type_kinds::CONSTRUCTOR => 1,
-        type_kinds::PHI => a,
-        _ => 0,
-    }
-}
-
-// How many words a type has of its own.
-fn own_words(kind: u32) -> usize
-    ensures some { 1 ≤ result }
-    ensures few { result ≤ 2 }
+// The little-endian words of bytes.
+fn words_of(alloc: Global, bytes: &[u8]) -> Result<Vec<u32>, AllocError>
+    ensures { IfOk result (λ words. vec_len words ≡ length bytes.now / 4) }
 {
-    match kind {
-        type_kinds::PRIMITIVE | type_kinds::POLY | type_kinds::OBJECT_METHOD => 1,
-        _ => 2,
+    let (words, _) = bytes.as_chunks::<4>();
+    words
+        .iter()
+        .map(|word| u32::from_le_bytes(*word))
+        .collect(alloc)
+}
+
+// The shape of an object, a function or a constructor, or NONE.
+#[derive(Clone, Copy)]
+struct Shape(u32);
+
+impl Display for Shape {
+    fn fmt<W: fmt::Write>(&self, f: &mut fmt::Formatter<W>) -> fmt::Result {
+        match self.0 {
+            NONE => write!(f, "none"),
+            shape => write!(f, "{shape}"),
+        }
     }
 }
 
-// A table word; 0 past the end.
-fn word(tables: &[u32; TABLE_WORDS], at: usize) -> u32 {
-    if at < TABLE_WORDS { tables[at] } else { 0 }
+// A type in the table words, but for its parts.
+#[derive(Clone, Copy)]
+enum Head {
+    Var(u32),
+    Primitive,
+    Poly,
+    ObjectMethod,
+    Object(Shape),
+    Function(Shape),
+    Constructor(Shape),
+    Phi(u32),
 }
 
-// Prints the type that starts at a table word, and ends the line. Gives where the next word after it stands.
-fn say_type(rt: &impl Print, tables: &[u32; TABLE_WORDS], from: usize) -> io::Result<usize> {
-    let mut at = from;
-    let mut left: u64 = 1;
+impl Head {
+    // The type at the start of table words, and the words after its own.
+    fn split(tables: &[u32]) -> Option<(Head, &[u32])>
+        ensures { IfSome result (λ split. length split.1.now < length tables.now) }
+    {
+        match tables {
+            [type_kinds::PRIMITIVE, rest @ ..] => Some((Head::Primitive, rest)),
+            [type_kinds::POLY, rest @ ..] => Some((Head::Poly, rest)),
+            [type_kinds::OBJECT_METHOD, rest @ ..] => Some((Head::ObjectMethod, rest)),
+            [type_kinds::VAR, slot, rest @ ..] => Some((Head::Var(*slot), rest)),
+            [type_kinds::OBJECT, shape, rest @ ..] => Some((Head::Object(Shape(*shape)), rest)),
+            [type_kinds::FUNCTION, shape, rest @ ..] => Some((Head::Function(Shape(*shape)), rest)),
+            [type_kinds::CONSTRUCTOR, shape, rest @ ..] => {
+                Some((Head::Constructor(Shape(*shape)), rest))
+            }
+            [_, operands, rest @ ..] => Some((Head::Phi(*operands), rest)),
+            [] | [_] => None,
+        }
+    }
+
+    // How many types follow as its parts.
+    fn parts(&self) -> u32 {
+        match self {
+            Head::Function(_) | Head::Constructor(_) => 1,
+            Head::Phi(operands) => *operands,
+            _ => 0,
+        }
+    }
+}
+
+impl Display for Head {
+    fn fmt<W: fmt::Write>(&self, f: &mut fmt::Formatter<W>) -> fmt::Result {
+        match self {
+            Head::Var(slot) => write!(f, "var {slot}"),
+            Head::Primitive => write!(f, "primitive"),
+            Head::Poly => write!(f, "poly"),
+            Head::ObjectMethod => write!(f, "method"),
+            Head::Object(shape) => write!(f, "object {shape}"),
+            Head::Function(shape) => write!(f, "function {shape}"),
+            Head::Constructor(shape) => write!(f, "constructor {shape}"),
+            Head::Phi(operands) => write!(f, "phi {operands}"),
+        }
+    }
+}
+
+// Prints the type at the start of table words, and ends the line. Gives the words after it. How many types are left grows by a type's
+// parts, so that no iterator counts them.
+fn print_type<'a>(rt: &impl Print, tables: &'a [u32]) -> io::Result<&'a [u32]> {
+    let mut rest = tables;
+    let mut left = 1u64;
     while left > 0 {
-        if at >= TABLE_WORDS {
+        let Some((head, after)) = Head::split(rest) else {
             break;
-        }
-        let kind = tables[at];
-        let a = word(tables, at + 1);
-        say_kind(rt, kind, a)?;
-        at += own_words(kind);
-        left = left - 1 + parts(kind, a) as u64;
+        };
+        print!(rt; " {head}")?;
+        left = (left - 1).saturating_add(u64::from(head.parts()));
+        rest = after;
     }
-    say(rt, b"\n")?;
-    Ok(at)
+    println!(rt)?;
+    Ok(rest)
 }
 
-// Prints each slot and its type. Gives where the bindings start.
-fn say_slots(rt: &impl Print, tables: &[u32; TABLE_WORDS], slots: u32) -> io::Result<usize> {
-    let mut at = 0;
+// Prints the answer, each slot and its type, and each bound slot and its type.
+fn print_answer(rt: &impl Print, answer: Answer, tables: &[u32]) -> io::Result<()> {
+    let Answer {
+        number,
+        steps,
+        slots,
+        bindings,
+        ..
+    } = answer;
+    println!(rt; "answer {number} steps {steps} slots {slots} binds {bindings}")?;
+    let mut rest = tables;
     for slot in 0..slots {
-        say_number(rt, b"slot ", slot)?;
-        at = say_type(rt, tables, at)?;
+        print!(rt; "slot {slot}")?;
+        rest = print_type(rt, rest)?;
     }
-    Ok(at)
-}
-
-// Prints each bound slot and its type.
-fn say_bindings(
-    rt: &impl Print,
-    tables: &[u32; TABLE_WORDS],
-    from: usize,
-    bindings: u32,
-) -> io::Result<()> {
-    let mut at = from;
     for _ in 0..bindings {
-        if at >= TABLE_WORDS {
+        let Some((slot, after)) = rest.split_first() else {
             break;
-        }
-        say_number(rt, b"bind ", tables[at])?;
-        at = say_type(rt, tables, at + 1)?;
+        };
+        print!(rt; "bind {slot}")?;
+        rest = print_type(rt, after)?;
     }
     Ok(())
 }
 
-fn say_answer(
-    rt: &impl Print,
-    answer: infer::Answer,
-    tables: &[u32; TABLE_WORDS],
-) -> io::Result<()> {
-    say_number(rt, b"answer ", answer.number)?;
-    say_number(rt, b" steps ", answer.steps)?;
-    say_number(rt, b" slots ", answer.slots)?;
-    say_number(rt, b" binds ", answer.bindings)?;
-    say(rt, b"\n")?;
-    let at = say_slots(rt, tables, answer.slots)?;
-    say_bindings(rt, tables, at, answer.bindings)
-}
-
-// A byte of the input; 0 past the end.
-fn byte(input: &[u8], at: usize) -> u32
-    ensures { result < 256 }
-{
-    if at < input.len() {
-        input[at] as u32
-    } else {
-        0
-    }
-}
-
-// A little-endian word of the input, by its number.
-fn input_word(input: &[u8], number: u32) -> u32 {
-    let at = 4 * (number as usize);
-    byte(input, at)
-        + 256 * byte(input, at + 1)
-        + 65536 * byte(input, at + 2)
-        + 16777216 * byte(input, at + 3)
-}
-
-// The words that follow the first three.
-fn image_words(input: &[u8]) -> [u32; MOST_WORDS]
-    ensures { 1024 ≡ length result }
-{
-    let mut image = [0u32; MOST_WORDS];
-    for (i, word) in image.iter_mut().enumerate() {
-        *word = input_word(input, 3 + i as u32);
-    }
-    image
-}
-
-// As many work words as any input is lent.
-fn work_words() -> [u32; MOST_WORK]
-    ensures { 16384 ≡ length result }
-{
-    [0; MOST_WORK]
-}
-
-// Prints the answer to an input. False if it announces too much, or has another length than announced.
-fn answer(rt: &impl Print, input: &[u8]) -> io::Result<bool> {
-    let words = input_word(input, 0) as usize;
-    let bytes = input_word(input, 1) as usize;
-    let budget = input_word(input, 2);
-    if words > MOST_WORDS || bytes > MOST_BYTES {
-        return Ok(false);
-    }
-    if budget > MOST_BUDGET {
-        return Ok(false);
-    }
-    let names = 12 + 4 * words;
-    if input.len() != names + bytes {
-        return Ok(false);
-    }
-    let image = image_words(input);
-    let lent = WORK_WORDS_EACH * (words + budget as usize);
-    let mut work = work_words();
-    let mut tables = [0u32; TABLE_WORDS];
+// Runs what is asked for, and prints the answer.
+fn run(rt: &impl Print, alloc: Global, request: Request<'_>) -> io::Result<()> {
+    let image = words_of(alloc, request.image)?;
+    let work_words = WORK_WORDS_EACH * (image.len() + request.budget as usize);
+    let mut work = vec![in alloc; 0; work_words]?;
+    let mut tables = vec![in alloc; 0; TABLE_WORDS]?;
     let answer = infer::infer_types(
-        &image[..words],
-        &input[names..],
-        budget,
-        &mut work[..lent],
+        &image,
+        request.names,
+        request.budget,
+        &mut work,
         &mut tables,
     );
-    say_answer(rt, answer, &tables)?;
-    Ok(true)
-}
-
-// Reads until the buffer is full or the input ends, and gives how many bytes were read. `remaining` is what a reader
-// has left, where that is known.
-fn read_full<R: Read>(input: &mut R, buffer: &mut [u8]) -> io::Result<usize>
-    ensures within { IfOk result (λ n. n ≤ length buffer.new) }
-    ensures read { IfOk result (λ n. Consumes (R.remaining input.old) (R.remaining input.new) (take n buffer.new)) }
-    ensures whole { IfOk result (λ n. n < length buffer.new → IsAtEnd (R.remaining input.new)) }
-{
-    let mut done = 0;
-    for _ in 0..u64::MAX {
-        let n = input.read(&mut buffer[done..])?;
-        if n == 0 {
-            break;
-        }
-        done += n;
-    }
-    Ok(done)
+    print_answer(rt, answer, &tables)
 }
 
 fn main(rt: HostRuntime) -> io::Result<()> {
-    let mut input = [0u8; MOST_INPUT];
-    let got = read_full(&mut rt.stdin(), &mut input)?;
-    if !answer(&rt, &input[..got])? {
-        say(&rt, b"input unfit\n")?;
+    let mut input = Vec::new(rt.alloc());
+    rt.stdin().take(MOST_INPUT as u64).read_to_end(&mut input)?;
+    match request_of(&input) {
+        Some(request) => run(&rt, rt.alloc(), request),
+        None => println!(rt; "input unfit"),
     }
-    Ok(())
 }

@@ -5,8 +5,8 @@ use Rattle.names.proofs.digits.count_digits.Goals as goal
 pub loop-rest-init : goal.loop-rest-init
 loop-rest-init c = (omega arith, omega arith)
 
-pub overflow_add-n : goal.overflow_add-n
-overflow_add-n c = omega (arith, digits_few c.args.x)
+pub overflow_add-count : goal.overflow_add-count
+overflow_add-count c = omega (arith, digits_few c.args.x c.ranges.x.fits)
 
 pub loop-rest-preserved : goal.loop-rest-preserved
 loop-rest-preserved c = (omega arith, omega (arith, digits_longer c.loop-rest.rest c.loop-rest.invariant.0 c.loop-rest-test.true))
