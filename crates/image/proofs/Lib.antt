@@ -1,5 +1,7 @@
 pub mod Rows
+pub mod Numbered
 pub mod Passed
+pub mod RowsByAll
 pub mod Tests
 pub mod Checked
 pub mod TypeRows

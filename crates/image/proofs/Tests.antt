@@ -6,6 +6,13 @@ use mathlib.Core.Bool.{Bool, true, false, ◌&&◌, false≢true}
 pub join : {r a b : Bool} (s t : Bool) → r ≡ a && b → a ≡ s → b ≡ t → r ≡ s && t
 join s t p q h = cc
 
+-- what code joins by `&&`: the second test where the first holds, else the first
+pub second : {a b : Bool} (s t : Bool) → a ≡ s → a ≡ true → b ≡ t → b ≡ s && t
+second s t p q h = cc
+
+pub first : {a : Bool} (s t : Bool) → a ≡ s → a ≡ false → a ≡ s && t
+first s t p q = cc
+
 -- both halves of a test that passes
 pub left : (a b : Bool) → a && b ≡ true → a ≡ true
 left true b e = refl

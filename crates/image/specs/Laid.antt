@@ -33,3 +33,8 @@ pub record SizedInputs (img bytes : List ℕ) : Type 0 where
   pub long : 20 ≤ length img
   pub short : length img ≤ 65536
   pub few : length bytes ≤ 65536
+
+-- the words of an image, and its name bytes
+pub record Sources : Type 0 where
+  pub words : List ℕ
+  pub names : List ℕ

@@ -1,6 +1,8 @@
 pub mod Ty
+pub mod Refusals
 pub mod Image
 pub mod Laid
+pub mod Tags
 pub mod Kind
 pub mod Read
 pub mod Body

@@ -8,10 +8,14 @@ ghost use Rattle.image.specs.Laid.{Laid, InTable, NamesInside};
 pub mod header;
 pub mod kinds;
 pub mod markers;
+pub mod refusal;
 pub mod refusals;
 pub mod shapes;
 pub mod tags;
 pub mod type_kinds;
+mod views;
+
+pub use views::{BodyImage, Header, Image, NamedImage};
 
 // No name, type or shape; a property that is a number.
 pub const NONE: u32 = 4294967295;
@@ -34,6 +38,17 @@ pub enum Table {
     Properties,
     Functions,
 }
+
+pub const TABLES: [Table; 8] = [
+    Table::Names,
+    Table::Identifiers,
+    Table::Slots,
+    Table::Types,
+    Table::Lists,
+    Table::Shapes,
+    Table::Properties,
+    Table::Functions,
+];
 
 // The counts that bound the numbers in a body.
 #[derive(Clone, Copy)]

@@ -1,79 +1,84 @@
--- Blocks and bodies at a cursor: what each test that code makes says of the reader, and which functions are named. Assumes nothing.
-use Prim.Native.Nat.{ℕ, ◌+◌, ◌-◌, ◌≤◌, ◌<◌}
-use mathlib.Core.Path.{◌≡◌, refl}
-use mathlib.Core.Option.{Option}
-use mathlib.Core.List.{List, [], ◌∷◌, ◌++◌, append_assoc, append-nil}
-use lib.ListN.{length}
+-- Blocks and bodies: what each part that code reads says of the reader, and which functions are named. Assumes nothing.
+use Rattle.std.proofs.Common.{◌≡◌, ℕ, ◌<◌, ◌≤◌, List, [], ◌∷◌, ◌++◌, length, refl, sym, ap, ◌∙◌, arith, append_assoc, append-nil}
+use Rattle.std.specs.Prelude.{Option, Some, None}
+use Rattle.std.specs.Borrow.{Bor}
+use Rattle.std.proofs.Math.Option as math
 use Rattle.image.specs.declared.Limits.{Limits}
-use Rattle.image_instructions.specs.declared.read.Next.{Next}
-use Rattle.image.specs.Image.{word}
-use Rattle.image.specs.Read.{nothing, followed, passing, any, below, many, counted, between}
+use Rattle.image.specs.Read.{Read, nothing, got, followed, below, counted}
 use Rattle.image.specs.Body.{Block, identifier, param, phi_node, instruction, terminal, block, body}
 use Rattle.image.specs.Nesting.{named_by_instructions, named_by_blocks}
-use Rattle.image_instructions.specs.Cursor.{Ended, Ends}
-use Rattle.image_instructions.specs.Marks.{Notes, named_by_block, named_by_body}
-use Rattle.image_instructions.proofs.Cursor.{counted_short, counted_next, counted_none}
-use Rattle.image.proofs.Reading.{words_3, length_between, lacking, below_in, below_out}
-use Rattle.image_instructions.proofs.Noting.{Noted, notes_made, notes_then}
+use Rattle.image_instructions.specs.declared.marks.BodyReader.{BodyReader}
+use Rattle.image_instructions.specs.Marks.{Noted, Notes, named_by_block, named_by_body}
+use Rattle.image_instructions.specs.Reads.{left, Leaves}
+use Rattle.image_instructions.proofs.Readers.{nothing_left}
+use Rattle.image_instructions.proofs.Noting.{got_of, noted_made}
+use Rattle.image.proofs.Reading.{lacking, below_in, below_out}
 
-module _ (l : Limits) (img : List ℕ) (at end : ℕ) (i : end ≤ length img) where
-  pub block_none : end ≤ at → block l (between img at end) ≡ nothing
-  unfolding block followed
-  block_none h = rw (counted_none (phi_node l) img at end h)
+-- what follows a reader that gave a value
+followed_got : {A B : Type 0} {o : Read A} {a : A} {ws : List ℕ} (k : A → List ℕ → Read B) → o ≡ got a ws → followed o k ≡ k a ws
+unfolding followed
+followed_got k e = rw e
 
-  pub block_phis_out : at < end → many (phi_node l) (word img at) (between img (at + 1) end) ≡ nothing → block l (between img at end) ≡ nothing
-  unfolding block followed
-  block_phis_out h e = rw (counted_next (phi_node l) img at end h i, e)
+followed_nothing : {A B : Type 0} {o : Read A} (k : A → List ℕ → Read B) → o ≡ nothing → followed o k ≡ nothing
+unfolding followed
+followed_nothing k e = rw e
 
-  module _ {a : ℕ} (h : at < end) (p : Ended img end (many (phi_node l) (word img at) (between img (at + 1) end)) a) where
-    pub block_instructions_none : end ≤ a → block l (between img at end) ≡ nothing
-    unfolding block followed
-    block_instructions_none g = rw (counted_next (phi_node l) img at end h i, p.reads, counted_none (instruction l) img a end g)
+module _ (l : Limits) (ws : List ℕ) where
+  pub block_phis_out : left (counted (phi_node l) ws) ≡ None → block l ws ≡ nothing
+  unfolding block
+  block_phis_out e = followed_nothing _ (nothing_left _ e)
 
-    pub block_instructions_out : a < end → many (instruction l) (word img a) (between img (a + 1) end) ≡ nothing → block l (between img at end) ≡ nothing
-    unfolding block followed
-    block_instructions_out g e = rw (counted_next (phi_node l) img at end h i, p.reads, counted_next (instruction l) img a end g i, e)
+  module _ {ws₁ : List ℕ} (p : left (counted (phi_node l) ws) ≡ Some ws₁) where
+    pub block_instructions_out : counted (instruction l) ws₁ ≡ nothing → block l ws ≡ nothing
+    unfolding block
+    block_instructions_out e = followed_got _ (got_of _ p).1 ∙ followed_nothing _ e
 
-    pub block_in : {f b : ℕ} {m₀ m : List ℕ} {r : Next} → a < end → Noted f named_by_instructions img end (many (instruction l) (word img a) (between img (a + 1) end)) m₀ m b → Ends img end (terminal l (between img b end)) r → Notes f named_by_block img end (block l (between img at end)) m₀ m r
-    unfolding block followed
-    block_in g q t =
-        notes_made (λ (x : Option ℕ). record { phis = p.value; instructions = q.ended.value; returned = x }) (λ x. refl)
-        (rw (counted_next (phi_node l) img at end h i, p.reads, counted_next (instruction l) img a end g i, q.ended.reads)) t q.noting
+    module _ {m : ℕ} {r r₁ : BodyReader m} {ws₂ : List ℕ} (q : Noted named_by_instructions (counted (instruction l) ws₁) r r₁ ws₂) where
+      -- the answer of a block is its terminal's
+      pub block_answer : r₁.limits ≡ l → (o : Option (Bor (List ℕ))) → Leaves (left (terminal r₁.limits ws₂)) o → Notes named_by_block (block l ws) r r₁ o
+      unfolding block
+      block_answer e None t =
+          let t' : left (terminal l ws₂) ≡ None = ap (λ (x : Limits). left (terminal x ws₂)) (sym e) ∙ t in
+          followed_got _ (got_of _ p).1 ∙ followed_got _ q.reads ∙ followed_nothing _ (nothing_left _ t')
+      block_answer e (Some rest) t =
+          let t' : left (terminal l ws₂) ≡ Some rest.now = ap (λ (x : Limits). left (terminal x ws₂)) (sym e) ∙ t in
+          noted_made (terminal l ws₂) (λ (x : math.Option ℕ). record { phis = (got_of _ p).0; instructions = q.value; returned = x }) (λ x. refl)
+          (followed_got _ (got_of _ p).1 ∙ followed_got _ q.reads) t' q.noting
 
-  pub body_short : end - at < 3 → body l (between img at end) ≡ nothing
-  unfolding body identifier below followed
-  body_short h =
-      lacking _ _ 2 (λ w ws h₁. lacking _ _ 1 (λ v vs h₂. rw (counted_short (param l) vs h₂)) ws h₁) (between img at end) (rw (length_between img at end i) h)
+  pub body_short : length ws < 2 → body l ws ≡ nothing
+  unfolding body identifier below
+  body_short h = lacking _ _ 1 (λ w vs h₁. lacking _ _ 0 (λ v us h₂. absurd (omega arith)) vs h₁) ws h
 
-  module _ (h : at + 3 ≤ end) where
-    pub body_type_out : 3 ≤ word img at → body l (between img at end) ≡ nothing
+  module _ {t p : ℕ} {rest : List ℕ} (e : ws ≡ t ∷ p ∷ rest) where
+    pub body_type_out : 3 ≤ t → body l ws ≡ nothing
     unfolding body followed
-    body_type_out t = rw (words_3 img at end h i, below_out)
+    body_type_out h = rw (e, below_out)
 
-    pub body_returns_out : word img at < 3 → l.identifiers ≤ word img (at + 1) → body l (between img at end) ≡ nothing
+    pub body_returns_out : t < 3 → l.identifiers ≤ p → body l ws ≡ nothing
     unfolding body identifier followed
-    body_returns_out t u = rw (words_3 img at end h i, below_in, below_out)
+    body_returns_out h g = rw (e, below_in, below_out)
 
-    module _ (t : word img at < 3) (u : word img (at + 1) < l.identifiers) where
-      pub body_params_out : many (param l) (word img (at + 2)) (between img (at + 3) end) ≡ nothing → body l (between img at end) ≡ nothing
-      unfolding body identifier followed counted any passing
-      body_params_out e = rw (words_3 img at end h i, below_in, below_in, e)
+    module _ (h : t < 3) (g : p < l.identifiers) where
+      pub body_params_out : left (counted (param l) rest) ≡ None → body l ws ≡ nothing
+      unfolding body identifier followed
+      body_params_out o = rw (e, below_in, below_in) (followed_nothing _ (nothing_left _ o))
 
-      module _ {a : ℕ} (p : Ended img end (many (param l) (word img (at + 2)) (between img (at + 3) end)) a) where
-        pub body_context_out : counted (identifier l) (between img a end) ≡ nothing → body l (between img at end) ≡ nothing
-        unfolding body identifier followed counted any passing
-        body_context_out e = rw (words_3 img at end h i, below_in, below_in, p.reads, e)
+      module _ {ws₁ : List ℕ} (a : left (counted (param l) rest) ≡ Some ws₁) where
+        pub body_context_out : left (counted (identifier l) ws₁) ≡ None → body l ws ≡ nothing
+        unfolding body identifier followed
+        body_context_out o = rw (e, below_in, below_in) (followed_got _ (got_of _ a).1 ∙ followed_nothing _ (nothing_left _ o))
 
-        module _ {b : ℕ} (q : Ended img end (counted (identifier l) (between img a end)) b) where
-          pub body_blocks_none : end ≤ b → body l (between img at end) ≡ nothing
-          unfolding body identifier followed counted any passing
-          body_blocks_none g = rw (words_3 img at end h i, below_in, below_in, p.reads, q.reads, counted_none (block l) img b end g)
-
-          pub body_in : {f : ℕ} {m₀ m : List ℕ} {r : Next} → b < end → Notes f named_by_blocks img end (many (block l) (word img b) (between img (b + 1) end)) m₀ m r → Notes f named_by_body img end (body l (between img at end)) m₀ m r
-          unfolding body identifier followed counted any passing
-          body_in g n =
-              notes_then (λ (bs : List Block). record { fn_type = word img at; returns = word img (at + 1); params = p.value; context = q.value; blocks = bs }) (λ bs. refl)
-              (rw (words_3 img at end h i, below_in, below_in, p.reads, q.reads, counted_next (block l) img b end g i)) n
+        module _ {ws₂ : List ℕ} (b : left (counted (identifier l) ws₁) ≡ Some ws₂) where
+          -- the answer of a body is its blocks'
+          pub body_answer : {m : ℕ} (r r₁ : BodyReader m) (o : Option (Bor (List ℕ))) → Notes named_by_blocks (counted (block l) ws₂) r r₁ o → Notes named_by_body (body l ws) r r₁ o
+          unfolding body identifier followed
+          body_answer r r₁ None n = rw (e, below_in, below_in) (followed_got _ (got_of _ a).1 ∙ followed_got _ (got_of _ b).1 ∙ followed_nothing _ n)
+          body_answer r r₁ (Some ws₃) n =
+              record {
+                value = record { fn_type = t; returns = p; params = (got_of _ a).0; context = (got_of _ b).0; blocks = n.value };
+                reads = rw (e, below_in, below_in) (followed_got _ (got_of _ a).1 ∙ followed_got _ (got_of _ b).1 ∙ followed_got _ n.reads);
+                noting = n.noting;
+              }
 
 -- what blocks in a row name
 pub blocks_row : (xs : List Block) (b : Block) → named_by_blocks (xs ++ (b ∷ [])) ≡ named_by_blocks xs ++ named_by_block b

@@ -1,3 +1,3 @@
-pub mod Spans
 pub mod BlockReaders
 pub mod Nested
+pub mod Spans

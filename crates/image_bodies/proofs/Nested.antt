@@ -1,68 +1,41 @@
 -- All bodies, one after the other: one body read whole, and the invariant of the loop. Assumes nothing.
-use Prim.Native.Nat.{ℕ, suc, ◌+◌, ◌-◌, ◌≤◌, ◌<◌}
-use native.Mathlib.Omega.{arith}
-use native.Mathlib.Numerals.{add-one}
-use native.Mathlib.Nat.{sub-zero}
-use native.Mathlib.Decide.{ℕ_discrete}
-use mathlib.Core.Path.{◌≡◌, refl, ap, subst, ◌∙◌}
-use mathlib.Core.Bool.{Bool, true, false}
-use mathlib.Core.Option.{Option, none, some}
-use mathlib.Core.List.{List, [], ◌∷◌, ◌++◌, append_assoc}
-use lib.ListN.{length, get_or, replicate, length-replicate, get_or-replicate}
-use lib.Dec.{eqb}
-use borrow.Author.Tests.{eq-eqb, ne_eqb}
+use Rattle.std.proofs.Common.{◌≡◌, ℕ, suc, ◌+◌, ◌-◌, ◌<◌, ◌≤◌, Bool, true, false, List, [], ◌∷◌, ◌++◌, length, get_or, refl, ◌∙◌, arith, append_assoc, add-one}
+use Rattle.std.proofs.Math.Dec.{eqb}
+use Rattle.std.proofs.Math.Option.{Option, none, some}
+use borrow.Author.Tests.{ne_eqb}
 use Rattle.image.specs.declared.Limits.{Limits}
 use Rattle.image.specs.declared.Table.TheVariants.{Functions}
-use Rattle.image_bodies.specs.declared.nesting.Bodies.TheVariants.{Broken, Misnested, Sound}
-use Rattle.image.specs.Image.{count, cell, limits}
+use Rattle.image.specs.Image.{count, cell, limits, range}
 use Rattle.image.specs.Laid.{BodiesInside}
-use Rattle.image.specs.Read.{nothing, between}
+use Rattle.image.specs.Read.{nothing, got}
 use Rattle.image.specs.Body.{Body, body, whole, body_at, bodies_from}
-use Rattle.image.specs.Nesting.{named_by_blocks, member, name_each, nested_well, nesting_of}
+use Rattle.image.specs.Nesting.{named_by_blocks, name_each, nested_well, nesting_of}
 use Rattle.image.specs.Check.{all_read, unless}
-use Rattle.image_instructions.specs.Marks.{mark, note, Stands, misnested, nested, Noting, named_by_body, Whole, unsound, sound, Unmarked}
-use Rattle.image_bodies.specs.Answer.{bodies_number, bodies_refusal}
-use Rattle.image.proofs.Reading.{words_0, words_1}
-use Rattle.image_instructions.proofs.Noting.{Noted}
+use Rattle.image_instructions.specs.declared.marks.BodyReader.{BodyReader}
+use Rattle.image_instructions.specs.Marks.{note, Stands, misnested, nested, named_by_body}
+use Rattle.image_bodies.specs.Answer.{bodies_refusal, Named, Whole, unsound, sound}
 
--- the functions of the limits are those of the image
-pub functions_limited : (l : Limits) (img : List ℕ) → l ≡ limits img → l.functions ≡ count Functions img
-unfolding limits
-functions_limited l img e = ap (λ (x : Limits). x.functions) e
-
--- the body of a function, given its limits, its offset and its words
-module _ (img : List ℕ) (f : ℕ) (l : Limits) (at n : ℕ) (e : l ≡ limits img) (a : at ≡ cell Functions img f 0) (w : n ≡ cell Functions img f 1) where
-  body_between : body_at img f ≡ whole (body l (between img at (at + n)))
-  unfolding body_at between
-  body_between =
-      let q : at + n - at ≡ n = omega arith in
-      rw (← e, ← a, ← w, q)
-
-  pub body_unread : body l (between img at (at + n)) ≡ nothing → body_at img f ≡ none
-  unfolding whole
-  body_unread e = rw (body_between, e)
+-- the words of the body of a function
+module _ (img : List ℕ) (f : ℕ) {ws : List ℕ} (e : ws ≡ range img (cell Functions img f 0) (cell Functions img f 1)) where
+  pub body_unread : body (limits img) ws ≡ nothing → body_at img f ≡ none
+  unfolding body_at whole
+  body_unread h = rw (← e, h)
 
   -- read to the end, or with words over
-  pub body_end : {m₀ m : List ℕ} {next : ℕ} → at + n ≤ length img → Noted f named_by_body img (at + n) (body l (between img at (at + n))) m₀ m next → Whole f (body_at img f) m₀ m (eqb next (at + n))
-  unfolding whole
-  body_end {m₀} {m} {next} i p = go (ℕ_discrete next (at + n))
-    where
-      go : Dec (next ≡ at + n) → Whole f (body_at img f) m₀ m (eqb next (at + n))
-      go (yes e) = rw (eq-eqb _ _ e) (sound p.ended.value (rw (body_between, p.ended.reads, words_0 img next (at + n) (omega arith))) p.noting)
-      go (no e) = rw (ne_eqb _ _ e) (unsound (rw (body_between, p.ended.reads, words_1 img next (at + n) (omega (arith, p.ended.within)) i)))
+  pub body_read : {n : ℕ} {r r₁ : BodyReader n} (b : Body) (rest : List ℕ) → body (limits img) ws ≡ got b rest → Named f (named_by_body b) r r₁ → {t : Bool} → t ≡ eqb (length rest) 0 → Whole f (body_at img f) r r₁ t
+  unfolding body_at whole
+  body_read b [] h n q = rw q (sound b (rw (← e, h)) n)
+  body_read b (w ∷ rest) h n q =
+      let z : eqb (length (w ∷ rest)) 0 ≡ false = ne_eqb _ _ (λ y. omega arith) in
+      rw (q, z) (unsound (rw (← e, h)))
 
 -- an answer that is known
-pub is_unsound : {f : ℕ} {o : Option Body} {m₀ m : List ℕ} {r : Bool} → r ≡ false → Whole f o m₀ m r → o ≡ none
-is_unsound {f} {o} {m₀} {m} e p = go (subst (Whole f o m₀ m) e p)
-  where
-    go : Whole f o m₀ m false → o ≡ none
-    go (unsound q) = q
+module _ {n f : ℕ} {o : Option Body} {r r₁ : BodyReader n} where
+  pub is_unsound : Whole f o r r₁ false → o ≡ none
+  is_unsound (unsound q) = q
 
-pub is_sound : {f : ℕ} {o : Option Body} {m₀ m : List ℕ} {r : Bool} → r ≡ true → Whole f o m₀ m r → (b : Body) × (o ≡ some b) × Noting f (named_by_body b) m₀ m
-is_sound {f} {o} {m₀} {m} e p = go (subst (Whole f o m₀ m) e p)
-  where
-    go : Whole f o m₀ m true → (b : Body) × (o ≡ some b) × Noting f (named_by_body b) m₀ m
-    go (sound b q n) = (b, q, n)
+  pub is_sound : Whole f o r r₁ true → (b : Body) × (o ≡ some b) × Named f (named_by_body b) r r₁
+  is_sound (sound b q m) = (b, q, m)
 
 -- bodies after those that were read already
 unfoldable pub after_bodies : List Body → Option (List Body) → Option (List Body)
@@ -75,24 +48,19 @@ nested_from f none bs = false
 nested_from f (some named) bs = nested_well f bs named
 
 -- after the bodies below f: what was read, what is left to be read, and what is named
-pub record BodiesNoted (img : List ℕ) (n f : ℕ) (before marks : List ℕ) : Type 0 where
-  pub within : f ≤ n
-  pub kept : length marks ≡ length before
+pub record BodiesNoted (img : List ℕ) (count f : ℕ) {n : ℕ} (reader : BodyReader n) : Type 0 where
+  pub within : f ≤ count
+  pub same_limits : reader.limits ≡ limits img
   pub read : List Body
-  pub same : bodies_from img 0 n ≡ after_bodies read (bodies_from img f (n - f))
+  pub same : bodies_from img 0 count ≡ after_bodies read (bodies_from img f (count - f))
   pub named : Option (List ℕ)
-  pub stands : Stands marks named
+  pub stands : Stands reader.named named
   pub rest : (bs : List Body) → nested_well 0 (read ++ bs) [] ≡ nested_from f named bs
 
 after_none : (o : Option (List Body)) → o ≡ after_bodies [] o
 unfolding after_bodies
 after_none none = refl
 after_none (some xs) = refl
-
-pub bodies_start : (img : List ℕ) (n : ℕ) (marks : List ℕ) → Stands marks (some []) → BodiesNoted img n 0 marks marks
-unfolding nested_from
-bodies_start img n marks s =
-    record { within = omega arith; kept = refl; read = []; same = rw sub-zero (after_none _); named = some []; stands = s; rest = λ bs. refl }
 
 after_one : (xs : List Body) (b : Body) (o : Option (List Body)) → after_bodies xs (elim o [ none ↦ none | some ys ↦ some (b ∷ ys) ]) ≡ after_bodies (xs ++ (b ∷ [])) o
 unfolding after_bodies
@@ -108,61 +76,61 @@ nested_one f (some named) b bs = go (name_each f (named_by_blocks b.blocks) name
     go none e = rw (e, nested_well)
     go (some more) e = rw (e, nested_well)
 
-module _ {img : List ℕ} {n f : ℕ} {m₀ m : List ℕ} (p : BodiesNoted img n f m₀ m) where
-  one_more : f < n → bodies_from img 0 n ≡ after_bodies p.read (bodies_from img f (suc (n - (f + 1))))
+pub bodies_start : (img : List ℕ) (count : ℕ) {n : ℕ} (reader : BodyReader n) → reader.limits ≡ limits img → Stands reader.named (some []) → BodiesNoted img count 0 reader
+unfolding nested_from
+bodies_start img count reader l s =
+    let q : count - 0 ≡ count = omega arith in
+    record { within = omega arith; same_limits = l; read = []; same = rw q (after_none _); named = some []; stands = s; rest = λ bs. refl }
+
+module _ {img : List ℕ} {count f n : ℕ} {reader : BodyReader n} (p : BodiesNoted img count f reader) where
+  one_more : f < count → bodies_from img 0 count ≡ after_bodies p.read (bodies_from img f (suc (count - (f + 1))))
   one_more h =
-      let q : n - f ≡ suc (n - (f + 1)) = omega arith in
+      let q : count - f ≡ suc (count - (f + 1)) = omega arith in
       p.same ∙ rw q
 
-  pub bodies_turn : {m₁ : List ℕ} → f < n → (b : Body) × (body_at img f ≡ some b) × Noting f (named_by_body b) m m₁ → length m₁ ≡ length m → BodiesNoted img n (f + 1) m₀ m₁
+  pub bodies_turn : {next : BodyReader n} → f < count → (b : Body) × (body_at img f ≡ some b) × Named f (named_by_body b) reader next → BodiesNoted img count (f + 1) next
   unfolding bodies_from
-  bodies_turn h (b, e, s) l =
+  bodies_turn h (b, e, m) =
       record {
         within = omega arith;
-        kept = l ∙ p.kept;
+        same_limits = m.limits ∙ p.same_limits;
         read = p.read ++ (b ∷ []);
         same = one_more h ∙ rw (e, bodies_from, add-one) (after_one p.read b _);
         named = note f (named_by_body b) p.named;
-        stands = s.stands p.stands;
+        stands = m.stands p.stands;
         rest = λ bs. rw (append_assoc, add-one) (p.rest (b ∷ bs) ∙ nested_one f p.named b bs);
       }
 
-  pub bodies_broken : f < n → body_at img f ≡ none → bodies_number Broken ≡ bodies_refusal (bodies_from img 0 n)
-  unfolding bodies_from after_bodies bodies_number bodies_refusal unless all_read
+  pub bodies_broken : f < count → body_at img f ≡ none → 9 ≡ bodies_refusal (bodies_from img 0 count)
+  unfolding bodies_from after_bodies bodies_refusal unless all_read
   bodies_broken h e = rw (one_more h, e, bodies_from)
 
-  all : n ≤ f → bodies_from img 0 n ≡ some (p.read ++ [])
+  all : count ≤ f → bodies_from img 0 count ≡ some (p.read ++ [])
   unfolding bodies_from after_bodies
   all h =
-      let q : n - f ≡ 0 = omega arith in
+      let q : count - f ≡ 0 = omega arith in
       p.same ∙ rw q
 
-  pub bodies_misnested : n ≤ f → (get_or m 0 0 ≡ 0 → ⊥) → bodies_number Misnested ≡ bodies_refusal (bodies_from img 0 n)
-  unfolding bodies_number bodies_refusal unless all_read nesting_of nested_from
+  pub bodies_misnested : count ≤ f → get_or reader.named 0 false ≡ true → 10 ≡ bodies_refusal (bodies_from img 0 count)
+  unfolding bodies_refusal unless all_read nesting_of nested_from
   bodies_misnested h e = go p.named refl p.stands
     where
-      go : (s : Option (List ℕ)) → p.named ≡ s → Stands m s → bodies_number Misnested ≡ bodies_refusal (bodies_from img 0 n)
+      go : (s : Option (List ℕ)) → p.named ≡ s → Stands reader.named s → 10 ≡ bodies_refusal (bodies_from img 0 count)
       go none q z = rw (all h, p.rest [], q)
-      go (some gs) q (nested z y) = absurd (e z)
+      go (some gs) q (nested z y) = cc
 
-  pub bodies_sound : n ≤ f → get_or m 0 0 ≡ 0 → bodies_number Sound ≡ bodies_refusal (bodies_from img 0 n)
-  unfolding bodies_number bodies_refusal unless all_read nesting_of nested_from nested_well
+  pub bodies_sound : count ≤ f → get_or reader.named 0 false ≡ false → 0 ≡ bodies_refusal (bodies_from img 0 count)
+  unfolding bodies_refusal unless all_read nesting_of nested_from nested_well
   bodies_sound h e = go p.named refl p.stands
     where
-      go : (s : Option (List ℕ)) → p.named ≡ s → Stands m s → bodies_number Sound ≡ bodies_refusal (bodies_from img 0 n)
-      go none q (misnested z) = absurd (omega arith)
+      go : (s : Option (List ℕ)) → p.named ≡ s → Stands reader.named s → 0 ≡ bodies_refusal (bodies_from img 0 count)
+      go none q (misnested z) = cc
       go (some gs) q z = rw (all h, p.rest [], q)
 
--- marks of none
-pub unmarked : (img : List ℕ) (n : ℕ) → BodiesInside img → count Functions img ≤ n → 0 < n → Unmarked img (replicate n 0)
-unfolding member mark
-unmarked img n i r h =
-    record {
-      inside = i;
-      room = rw length-replicate r;
-      first = rw length-replicate h;
-      clear = nested (get_or-replicate n 0 0 0 h) (λ g k. get_or-replicate n g 0 0 (simp length-replicate at k));
-    }
+-- the functions of the limits are those of the image
+pub functions_limited : (img : List ℕ) {l : Limits} → l ≡ limits img → l.functions ≡ count Functions img
+unfolding limits
+functions_limited img e = rw e
 
 -- an image has room for at most so many rows of two words
 pub functions_few : {img : List ℕ} → BodiesInside img → count Functions img ≤ 32768

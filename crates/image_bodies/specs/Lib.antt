@@ -1,2 +1,2 @@
-pub mod Span
 pub mod Answer
+pub mod Span

@@ -1,93 +1,55 @@
 // All bodies, each read once: refusals 9 and 10, but for bodies that share a word.
-ghost use Rattle.std.specs.Prelude.{◌≡◌, ◌≤◌};
-ghost use Rattle.image.specs.Image.{count as count_of};
-ghost use Rattle.image.specs.Laid.{BodiesInside};
+ghost use Rattle.std.specs.Prelude.{◌≡◌, ◌<◌, ◌≤◌};
+ghost use Rattle.image.specs.Image.{count as count_of, limits as limits_of};
 ghost use Rattle.image.specs.Body.{body_at, bodies};
-ghost use Rattle.image_bodies.specs.Answer.{bodies_number, bodies_refusal};
-ghost use Rattle.image_instructions.specs.Marks.{Whole, Markable, Unmarked};
+ghost use Rattle.image.specs.Refusals.{refused};
 ghost use Rattle.image.specs.declared.Table.TheVariants.{Functions};
+ghost use Rattle.image_bodies.specs.Answer.{Whole, bodies_refusal};
 
 use crate::body::body;
-use image::{Limits, Table, cell, count, limits_of, refusals};
-use image_instructions::read::Next;
+use image::BodyImage;
+use image::refusal::Refusal;
+use image_instructions::marks::BodyReader;
 
-// A body with a word not allowed, ending early or with words over; else a function named wrongly or twice; else neither.
-#[derive(Clone, Copy)]
-pub enum Bodies {
-    Broken,
-    Misnested,
-    Sound,
-}
-
-// The body of function f, read whole.
-fn body_whole(img: &[u32], marks: &mut [u8], l: Limits, f: u32) -> bool
-    requires { Markable img.now l f marks.old }
-    ensures { Whole f (body_at img.now f) marks.old marks.new result }
+// Whether the body of function f is read, and nothing is left of it.
+fn body_whole<const N: usize>(image: &BodyImage, reader: &mut BodyReader<N>, f: u32) -> bool
+    requires row { f < count_of Functions image.now }
+    requires limits { reader.old.limits ≡ limits_of image.now }
+    ensures { Whole f (body_at image.now f) reader.old reader.new result }
 {
-    let at = cell(img, Table::Functions, f, 0) as usize;
-    let end = at + cell(img, Table::Functions, f, 1) as usize;
-    let Next::To(next) = body(img, marks, l, f, at, end) else {
+    reader.function = f;
+    let Some(rest) = body(reader, image.body(f)) else {
         return false;
     };
-    next == end
+    rest.is_empty()
 }
 
-// Every body, with marks of none.
-fn bodies_marked(img: &[u32], marks: &mut [u8]) -> Bodies
-    requires { Unmarked img.now marks.old }
-    ensures { bodies_number result ≡ bodies_refusal (bodies img.now) }
+// Every body, with room for marks of N functions.
+fn bodies_marked<const N: usize>(image: &BodyImage) -> Result<(), Refusal>
+    requires room { count_of Functions image.now ≤ N }
+    requires first { 0 < N }
+    requires few { N ≤ 32768 }
+    ensures { refused result ≡ bodies_refusal (bodies image.now) }
 {
-    let l = limits_of(img);
-    let n = l.functions;
-    let mut f: u32 = 0;
-    while f < n {
-        if !body_whole(img, marks, l, f) {
-            return Bodies::Broken;
+    let mut reader: BodyReader<N> = BodyReader::new(image.limits());
+    for f in 0..image.functions() {
+        if !body_whole(image, &mut reader, f) {
+            return Err(Refusal::Bodies);
         }
-        f += 1;
     }
-    if marks[0] != 0 {
-        return Bodies::Misnested;
+    if reader.misnested() {
+        return Err(Refusal::Nesting);
     }
-    Bodies::Sound
+    Ok(())
 }
 
-fn bodies_of_few(img: &[u32]) -> Bodies
-    requires bodies_inside { BodiesInside img.now }
-    requires img_bound { count_of Functions img.now ≤ 64 }
-    ensures { bodies_number result ≡ bodies_refusal (bodies img.now) }
+// Reads every body once. Marks cost time by their room, so an image of few functions has a room of its own.
+pub fn bodies_read(image: &BodyImage) -> Result<(), Refusal>
+    ensures { refused result ≡ bodies_refusal (bodies image.now) }
 {
-    let mut marks = [0u8; 64];
-    bodies_marked(img, &mut marks)
-}
-
-// An image has room for at most 32,768 rows of two words.
-fn bodies_of_any(img: &[u32]) -> Bodies
-    requires { BodiesInside img.now }
-    ensures { bodies_number result ≡ bodies_refusal (bodies img.now) }
-{
-    let mut marks = [0u8; 32768];
-    bodies_marked(img, &mut marks)
-}
-
-// Reads every body once.
-pub fn bodies_read(img: &[u32]) -> Bodies
-    requires { BodiesInside img.now }
-    ensures { bodies_number result ≡ bodies_refusal (bodies img.now) }
-{
-    if count(img, Table::Functions) <= 64 {
-        return bodies_of_few(img);
-    }
-    bodies_of_any(img)
-}
-
-// The number of an answer.
-pub fn bodies_number(read: Bodies) -> u32
-    ensures { result ≡ bodies_number read }
-{
-    match read {
-        Bodies::Broken => refusals::BODIES,
-        Bodies::Misnested => refusals::NESTING,
-        Bodies::Sound => 0,
+    if image.functions() <= 64 {
+        bodies_marked::<64>(image)
+    } else {
+        bodies_marked::<32768>(image)
     }
 }

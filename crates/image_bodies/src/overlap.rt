@@ -1,60 +1,57 @@
 // Refusal 9: whether bodies share a word.
-ghost use Rattle.std.specs.Prelude.{◌≡◌};
+ghost use Rattle.std.specs.Prelude.{◌≡◌, ◌<◌};
 ghost use Rattle.image.specs.declared.Table.TheVariants.{Functions};
-ghost use Rattle.image.specs.Check.{each, apart_from_earlier};
-ghost use Rattle.image.specs.Laid.{BodiesInside};
-ghost use Rattle.image_bodies.specs.Span.{Spanned};
+ghost use Rattle.image.specs.Image.{count as count_of};
+ghost use Rattle.image.specs.Check.{each, apart, apart_from_earlier};
+ghost use Rattle.image_bodies.specs.Span.{Spans};
 
-use image::{Table, cell, count};
+use image::BodyImage;
 
-// Whether body g is apart from each earlier body, which lie from low up to high.
-fn apart_from_earlier(img: &[u32], g: u32, low: u32, high: u32) -> bool
-    requires { Spanned img.now g low high }
-    ensures { result ≡ apart_from_earlier img.now g }
+// Words from low up to high.
+#[derive(Clone, Copy)]
+struct Span {
+    low: u32,
+    high: u32,
+}
+
+// Whether two bodies have no word in common.
+#[tactic(auto, unfolding(image::specs::Check::apart, image::specs::Check::inside))]
+fn apart(image: &BodyImage, f: u32, g: u32) -> bool
+    requires one { f < count_of Functions image.now }
+    requires other { g < count_of Functions image.now }
+    ensures { result ≡ apart image.now f g }
 {
-    let start = cell(img, Table::Functions, g, 0);
-    let end = start + cell(img, Table::Functions, g, 1);
-    if high <= start {
+    image.end(f) <= image.start(g) || image.end(g) <= image.start(f)
+}
+
+// Whether body g is apart from each earlier body, all of which lie in a span.
+fn apart_from_earlier(image: &BodyImage, g: u32, earlier: Span) -> bool
+    requires row { g < count_of Functions image.now }
+    requires earlier { Spans image.now g earlier }
+    ensures { result ≡ apart_from_earlier image.now g }
+{
+    if earlier.high <= image.start(g) || image.end(g) <= earlier.low {
         return true;
     }
-    if end <= low {
-        return true;
-    }
-    let mut f: u32 = 0;
-    while f < g {
-        let other = cell(img, Table::Functions, f, 0);
-        if other < end {
-            if start < other + cell(img, Table::Functions, f, 1) {
-                return false;
-            }
-        }
-        f += 1;
-    }
-    true
+    (0..g).all(|f| apart(image, f, g))
 }
 
 // Whether no two bodies share a word.
-pub fn bodies_apart(img: &[u32]) -> bool
-    requires { BodiesInside img.now }
-    ensures { result ≡ each Functions img.now (apart_from_earlier img.now) }
+pub fn bodies_apart(image: &BodyImage) -> bool
+    ensures { result ≡ each Functions image.now (apart_from_earlier image.now) }
 {
-    let n = count(img, Table::Functions);
-    let mut low: u32 = 65536;
-    let mut high: u32 = 0;
-    let mut g: u32 = 0;
-    while g < n {
-        if !apart_from_earlier(img, g, low, high) {
+    let mut earlier = Span {
+        low: u32::MAX,
+        high: 0,
+    };
+    for g in 0..image.functions() {
+        if !apart_from_earlier(image, g, earlier) {
             return false;
         }
-        let start = cell(img, Table::Functions, g, 0);
-        let end = start + cell(img, Table::Functions, g, 1);
-        if start < low {
-            low = start;
-        }
-        if high < end {
-            high = end;
-        }
-        g += 1;
+        earlier = Span {
+            low: earlier.low.min(image.start(g)),
+            high: earlier.high.max(image.end(g)),
+        };
     }
     true
 }

@@ -1,68 +1,69 @@
-// The check: 0, or the first of the refusals 1 to 10 that is due.
+// The check: the first of the refusals 1 to 10 that is due.
 #![tactic(auto)]
 
 ghost use Rattle.std.specs.Prelude.{◌≡◌};
 ghost use Rattle.image.specs.Check.{unless, bodies_sound, check_tables, check as check_of};
 ghost use Rattle.image.specs.Nesting.{nesting_sound};
-ghost use Rattle.image.specs.Laid.{BodiesInside, SizedInputs};
+ghost use Rattle.image.specs.Laid.{SizedInputs};
+ghost use Rattle.image.specs.Refusals.{refused};
 
-use image::{LIMIT, WORK_WORDS_EACH, header, refusals};
-use image_bodies::nesting::{bodies_number, bodies_read};
+use image::refusal::Refusal;
+use image::{BodyImage, Header, Image, LIMIT, NamedImage, WORK_WORDS_EACH, header};
+use image_bodies::nesting::bodies_read;
 use image_bodies::overlap::bodies_apart;
 use image_shapes::shapes::shapes_sound;
 use image_shapes::types::types_sound;
 use image_tables::{header_sound, references_sound};
 
 // The bodies and their nesting.
-fn check_bodies(img: &[u32]) -> u32
-    requires { BodiesInside img.now }
-    ensures { result ≡ unless (bodies_sound img.now) 9 (unless (nesting_sound img.now) 10 0) }
+fn check_bodies(bodies: &BodyImage) -> Result<(), Refusal>
+    ensures { refused result ≡ unless (bodies_sound bodies.now) 9 (unless (nesting_sound bodies.now) 10 0) }
 {
-    let read = bodies_read(img);
-    if !bodies_apart(img) {
-        return refusals::BODIES;
+    if !bodies_apart(bodies) {
+        return Err(Refusal::Bodies);
     }
-    bodies_number(read)
+    bodies_read(bodies)
 }
 
 // From the header on.
-fn check_tables(img: &[u32], bytes: &[u8]) -> u32
-    requires { SizedInputs img.now bytes.now }
-    ensures { result ≡ check_tables img.now bytes.now }
+fn check_tables(words: &[u32], names: &[u8]) -> Result<(), Refusal>
+    requires { SizedInputs words.now names.now }
+    ensures { refused result ≡ check_tables words.now names.now }
 {
-    if !header_sound(img) {
-        return refusals::HEADER;
+    let header = Header::new(words);
+    if !header_sound(&header) {
+        return Err(Refusal::Header);
     }
-    if !references_sound(img, bytes.len()) {
-        return refusals::REFERENCES;
+    let image = Image::new(header);
+    if !references_sound(&image, names.len()) {
+        return Err(Refusal::References);
     }
-    if !types_sound(img, bytes) {
-        return refusals::TYPES;
+    let bodies = BodyImage::new(&image);
+    let named = NamedImage::new(image, names);
+    if !types_sound(named.image()) {
+        return Err(Refusal::Types);
     }
-    if !shapes_sound(img, bytes) {
-        return refusals::SHAPES;
+    if !shapes_sound(&named) {
+        return Err(Refusal::Shapes);
     }
-    check_bodies(img)
+    check_bodies(&bodies)
 }
 
-// The number of the refusal, or 0, for an image, its name bytes, the budget and the length of the work words.
-pub fn check(img: &[u32], bytes: &[u8], budget: u32, work: usize) -> u32
-    ensures { result ≡ check_of img.now bytes.now budget work }
+// The refusal of an image, its name bytes, the budget and the length of the work words, if one is due.
+pub fn check(words: &[u32], names: &[u8], budget: u32, work: usize) -> Result<(), Refusal>
+    ensures { refused result ≡ check_of words.now names.now budget work }
 {
-    if img.len() < header::WORDS {
-        return refusals::IMAGE_WORDS;
+    if words.len() < header::WORDS || words.len() > LIMIT {
+        return Err(Refusal::ImageWords);
     }
-    if img.len() > LIMIT {
-        return refusals::IMAGE_WORDS;
-    }
-    if bytes.len() > LIMIT {
-        return refusals::NAME_BYTES;
+    if names.len() > LIMIT {
+        return Err(Refusal::NameBytes);
     }
     if budget as usize > LIMIT {
-        return refusals::BUDGET;
+        return Err(Refusal::Budget);
     }
-    if work < WORK_WORDS_EACH * (img.len() + budget as usize) {
-        return refusals::WORK_WORDS;
+    if work < WORK_WORDS_EACH * (words.len() + budget as usize) {
+        return Err(Refusal::WorkWords);
     }
-    check_tables(img, bytes)
+    check_tables(words, names)
 }

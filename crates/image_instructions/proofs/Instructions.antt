@@ -1,77 +1,94 @@
--- Instructions at a cursor: what each test that code makes says of the reader, and which function is named. Assumes nothing.
-use Prim.Native.Nat.{ℕ, ◌+◌, ◌-◌, ◌/◌, ◌≤◌, ◌<◌}
-use native.Mathlib.Omega.{arith}
-use mathlib.Core.Path.{◌≡◌, refl}
-use mathlib.Core.Bool.{true, false}
-use mathlib.Core.Option.{Option, none, some}
-use mathlib.Core.List.{List, [], ◌∷◌, ◌++◌}
-use lib.ListN.{length}
+-- Instructions: what each test that code makes says of the reader, and which function is named. Assumes nothing.
+use Rattle.std.proofs.Common.{◌≡◌, ℕ, ◌<◌, ◌≤◌, List, [], ◌∷◌, ◌++◌, length, true, false, refl, sym, ap, ◌∙◌, arith}
+use Rattle.std.specs.Prelude.{Some, None}
+use Rattle.std.proofs.Math.Option.{Option, none, some}
 use borrow.Author.Tests.{ltb-true}
 use Rattle.image.specs.declared.Limits.{Limits}
-use Rattle.image_instructions.specs.declared.read.Next.{Next}
-use Rattle.image.specs.Image.{word}
-use Rattle.image.specs.Kind.{Form, form_of}
-use Rattle.image.specs.Read.{nothing, got, followed, passing, any, below, between}
+use Rattle.image.specs.Kind as said
+use Rattle.image.specs.Kind.{form_of}
+use Rattle.image.specs.Read.{nothing, got, followed, any, below}
 use Rattle.image.specs.Body.{Item, Instruction, identifier, aux_fits, items_of, instruction, instruction_of, nested, nested_by}
 use Rattle.image.specs.Nesting.{named_by_instructions}
-use Rattle.image_instructions.specs.Coded.{Coded, aux_of, items_coded}
-use Rattle.image_instructions.specs.Cursor.{Ends}
-use Rattle.image_instructions.specs.Marks.{Noting, Notes, named_by}
-use Rattle.image_instructions.proofs.Coded.{aux_function, names_none}
-use Rattle.image.proofs.Reading.{no_form, words_4, length_between, lacking, passing_in, passing_out, below_in, below_out}
-use Rattle.image_instructions.proofs.Noting.{noting_none, notes_made}
+use Rattle.image_instructions.specs.declared.form.Aux.{Aux}
+use Rattle.image_instructions.specs.declared.form.Aux.TheVariants.{Unused, Flag, NameOrNone, TypeOrNone, Function}
+use Rattle.image_instructions.specs.declared.form.Items.{Items}
+use Rattle.image_instructions.specs.declared.marks.BodyReader.{BodyReader}
+use Rattle.image_instructions.specs.Forms.{aux_said, items_said}
+use Rattle.image_instructions.specs.Marks.{Noting, Noted, named_by}
+use Rattle.image_instructions.specs.Reads.{left}
+use Rattle.image_instructions.proofs.Readers.{nothing_left}
+use Rattle.image_instructions.proofs.Noting.{noting_none, noted_made}
+use Rattle.image.proofs.Reading.{lacking, passing_in, passing_out, below_in, below_out}
 
-module _ (l : Limits) (img : List ℕ) (at end : ℕ) (i : end ≤ length img) where
-  pub instruction_short : end - at < 4 → instruction l (between img at end) ≡ nothing
+module _ (l : Limits) (ws : List ℕ) where
+  pub instruction_short : length ws < 4 → instruction l ws ≡ nothing
   unfolding instruction instruction_of identifier any below
-  instruction_short h = lacking _ _ 3 (λ k. rest (form_of k)) (between img at end) (rw (length_between img at end i) h)
+  instruction_short h = lacking _ _ 3 (λ k. rest (form_of k)) ws h
     where
-      rest : (o : Option Form) (ws : List ℕ) → length ws < 3 → instruction_of l o ws ≡ nothing
-      rest none ws h = refl
-      rest (some f) ws h = lacking _ _ 2 (λ w ws h₁. lacking _ _ 1 (λ v vs h₂. lacking _ _ 0 (λ u us h₃. absurd (omega arith)) vs h₂) ws h₁) ws h
+      rest : (o : Option said.Form) (vs : List ℕ) → length vs < 3 → instruction_of l o vs ≡ nothing
+      rest none vs h = refl
+      rest (some f) vs h = lacking _ _ 2 (λ w vs h₁. lacking _ _ 1 (λ v vs h₂. lacking _ _ 0 (λ u us h₃. absurd (omega arith)) vs h₂) vs h₁) vs h
 
-  module _ (h : at + 4 ≤ end) where
-    pub instruction_kind_out : 42 ≤ word img at → instruction l (between img at end) ≡ nothing
-    unfolding instruction instruction_of any followed passing
-    instruction_kind_out k = rw (words_4 img at end h i, no_form (word img at) k)
+  module _ {k p a n : ℕ} {rest : List ℕ} (e : ws ≡ k ∷ p ∷ a ∷ n ∷ rest) where
+    pub instruction_kind_out : form_of k ≡ none → instruction l ws ≡ nothing
+    unfolding instruction instruction_of any followed
+    instruction_kind_out q = rw (e, passing_in (λ w. true), q)
 
-    module _ {c : ℕ} (e : Coded c (form_of (word img at))) where
-      pub instruction_lvalue_out : l.identifiers ≤ word img (at + 1) → instruction l (between img at end) ≡ nothing
-      unfolding instruction instruction_of identifier any followed passing
-      instruction_lvalue_out t = rw (words_4 img at end h i, e.is, below_out)
-
-      pub instruction_aux_out : word img (at + 1) < l.identifiers → aux_fits l (aux_of (c / 100)) (word img (at + 2)) ≡ false → instruction l (between img at end) ≡ nothing
+    -- where the kind has a form, which the code has as these
+    module _ (x : Aux) (is : Items) {f : said.Form} (q : form_of k ≡ some f) (i : aux_said x ≡ f.aux) (j : items_said is ≡ f.items) where
+      pub instruction_lvalue_out : l.identifiers ≤ p → instruction l ws ≡ nothing
       unfolding instruction instruction_of identifier any followed
-      instruction_aux_out t u = rw (words_4 img at end h i, passing_in (λ w. true), e.is, below_in, e.aux, passing_out)
+      instruction_lvalue_out t = rw (e, passing_in (λ w. true), q, below_out)
 
-      -- an instruction with these items
-      with_items : List Item → Instruction
-      with_items is = record { form = e.form; lvalue = word img (at + 1); aux = word img (at + 2); items = is }
+      module _ (t : p < l.identifiers) where
+        pub instruction_aux_out : aux_fits l (aux_said x) a ≡ false → instruction l ws ≡ nothing
+        unfolding instruction instruction_of identifier any followed
+        instruction_aux_out u =
+            let v : aux_fits l f.aux a ≡ false = rw i at u in
+            rw (e, passing_in (λ w. true), q, below_in, passing_out)
 
-      names_no_function : c / 100 < 4 → (is : List Item) → named_by (with_items is) ≡ []
-      unfolding named_by_instructions nested with_items
-      names_no_function d is = rw (e.aux, names_none (c / 100) (word img (at + 2)) d, named_by_instructions)
+        module _ (u : aux_fits l (aux_said x) a ≡ true) where
+          -- an instruction with these items
+          with_items : List Item → Instruction
+          with_items vs = record { form = f; lvalue = p; aux = a; items = vs }
 
-      names_function : 4 ≤ c / 100 → (is : List Item) → named_by (with_items is) ≡ word img (at + 2) ∷ []
-      unfolding named_by_instructions nested nested_by with_items
-      names_function d is = rw (e.aux, aux_function (c / 100) d, named_by_instructions)
+          instruction_is : instruction l ws ≡ followed (items_of l (items_said is) a n rest) (λ vs us. got (with_items vs) us)
+          unfolding instruction instruction_of identifier any followed with_items
+          instruction_is =
+              let v : aux_fits l f.aux a ≡ true = rw i at u in
+              rw (e, passing_in (λ w. true), q, below_in, passing_in, passing_in (λ w. true), j)
 
-      module _ (t : word img (at + 1) < l.identifiers) (u : aux_fits l (aux_of (c / 100)) (word img (at + 2)) ≡ true) {r : Next} (o : Ends img end (items_of l (items_coded c) (word img (at + 2)) (word img (at + 3)) (between img (at + 4) end)) r) where
-        instruction_in : instruction l (between img at end) ≡ followed (items_of l (items_coded c) (word img (at + 2)) (word img (at + 3)) (between img (at + 4) end)) (λ is ws. got (with_items is) ws)
-        unfolding instruction instruction_of identifier any followed with_items
-        instruction_in = rw (words_4 img at end h i, passing_in (λ w. true), e.is, below_in, e.aux, passing_in, passing_in (λ w. true), e.items)
+          pub instruction_items_out : left (items_of l (items_said is) a n rest) ≡ None → instruction l ws ≡ nothing
+          unfolding followed
+          instruction_items_out o = instruction_is ∙ rw (nothing_left (items_of l (items_said is) a n rest) o)
 
-        -- an instruction that names no function, and one that does
-        pub instruction_plain : (f : ℕ) (m : List ℕ) → c / 100 < 4 → Notes f named_by img end (instruction l (between img at end)) m m r
-        instruction_plain f m d = notes_made with_items (names_no_function d) instruction_in o (noting_none f m)
+          names_none : (x ≡ Function → ⊥) → nested_by f.aux a ≡ none
+          unfolding nested_by
+          names_none d = rw (← i) (go x d)
+            where
+              go : (y : Aux) → (y ≡ Function → ⊥) → nested_by (aux_said y) a ≡ none
+              go Unused d = refl
+              go Flag d = refl
+              go NameOrNone d = refl
+              go TypeOrNone d = refl
+              go Function d = absurd (d refl)
 
-        pub instruction_naming : {f : ℕ} {m₀ m : List ℕ} → 4 ≤ c / 100 → Noting f (word img (at + 2) ∷ []) m₀ m → Notes f named_by img end (instruction l (between img at end)) m₀ m r
-        instruction_naming d n = notes_made with_items (names_function d) instruction_in o n
+          module _ {m : ℕ} (r r₁ : BodyReader m) {rest₁ : List ℕ} (o : left (items_of l (items_said is) a n rest) ≡ Some rest₁) where
+            -- an instruction that names no function, and one that does
+            pub instruction_plain : (x ≡ Function → ⊥) → Noted named_by (instruction l ws) r r rest₁
+            unfolding named_by_instructions nested with_items
+            instruction_plain d = noted_made _ with_items (λ vs. rw (names_none d, named_by_instructions)) instruction_is o (noting_none r)
+
+            pub instruction_naming : x ≡ Function → Noting (a ∷ []) r r₁ → Noted named_by (instruction l ws) r r₁ rest₁
+            unfolding named_by_instructions nested nested_by with_items
+            instruction_naming d g =
+                let v : f.aux ≡ said.function = sym i ∙ ap aux_said d in
+                noted_made _ with_items (λ vs. rw (v, named_by_instructions)) instruction_is o g
 
 -- an aux word that is a function
-pub function_below : (l : Limits) (d w : ℕ) → 4 ≤ d → aux_fits l (aux_of d) w ≡ true → w < l.functions
+pub function_below : (l : Limits) (x : Aux) (w : ℕ) → x ≡ Function → aux_fits l (aux_said x) w ≡ true → w < l.functions
 unfolding aux_fits
-function_below l d w h e = ltb-true _ _ (rw (aux_function d h) at e)
+function_below l x w d e = ltb-true _ _ (rw d at e)
 
 -- what instructions in a row name
 pub instructions_row : (xs : List Instruction) (i : Instruction) → named_by_instructions (xs ++ (i ∷ [])) ≡ named_by_instructions xs ++ named_by i

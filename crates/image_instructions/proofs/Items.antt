@@ -1,83 +1,83 @@
--- Items at a cursor: what each test that code makes says of the reader. Assumes nothing.
-use Prim.Native.Nat.{ℕ, zero, suc, ◌+◌, ◌-◌, ◌/◌, ◌%◌, ◌≤◌, ◌<◌}
-use native.Mathlib.Omega.{arith}
-use mathlib.Core.Path.{◌≡◌, refl}
-use mathlib.Core.Bool.{true, false}
-use mathlib.Core.List.{List, ◌++◌}
-use lib.ListN.{length}
-use borrow.Author.Tests.{le-leb, lt-leb, eq-eqb, ne_eqb}
+-- Items: which words are left after one and after runs of them. Assumes nothing.
+use Rattle.std.proofs.Common.{◌≡◌, ℕ, ◌+◌, ◌-◌, ◌<◌, ◌≤◌, List, [], ◌∷◌, ◌++◌, length, true, false, refl, ◌∙◌, arith}
+use Rattle.std.specs.Prelude.{Some, None}
+use borrow.Author.Tests.{ne_eqb, le-leb, lt-leb}
 use Rattle.image.specs.declared.Limits.{Limits}
-use Rattle.image_instructions.specs.declared.read.Next.{Next}
-use Rattle.image.specs.Image.{word}
-use Rattle.image.specs.Kind.{property_tags}
-use Rattle.image.specs.Read.{nothing, followed, below, many, between}
+use Rattle.image.specs.Kind.{places_then, pattern}
+use Rattle.image.specs.Read.{followed, below, many}
 use Rattle.image.specs.Body.{Item, one_of, pattern_tags, item, item_identifiers, item_keys, runs, items_of}
-use Rattle.image_instructions.specs.Coded.{tags_of, items_coded}
-use Rattle.image_instructions.specs.Cursor.{Ended, Ends}
-use Rattle.image_instructions.proofs.Cursor.{ends_then}
-use Rattle.image.proofs.Reading.{words_3, length_between, lacking, passing_in, passing_out, below_in, below_out}
+use Rattle.image_instructions.specs.declared.form.Tags.{Tags}
+use Rattle.image_instructions.specs.declared.form.Tags.TheVariants.{Nothing, Places, Arguments, Elements, Properties, Attributes}
+use Rattle.image_instructions.specs.Forms.{tags_said}
+use Rattle.image_instructions.specs.Reads.{left}
+use Rattle.image_instructions.proofs.Readers.{left_nothing, left_followed, left_made}
+use Rattle.image.proofs.Reading.{lacking, passing_in, passing_out, below_in, below_out}
 
--- the key of any other tag
-pub key_zero : (l : Limits) (t : ℕ) → (t ≡ 3 → ⊥) → (t ≡ 6 → ⊥) → (t ≡ 4 → ⊥) → item_keys l t ≡ 1
-unfolding item_keys one_of
-key_zero l t a b c = rw (ne_eqb 3 t (λ e. omega arith), ne_eqb 6 t (λ e. omega arith), ne_eqb t 4 c, item_keys)
+-- a word that is no tag is none of these
+pub no_tag : (tags : Tags) (w : ℕ) → 6 < w → one_of (tags_said tags) w ≡ false
+unfolding one_of
+no_tag Nothing w h = refl
+no_tag Places w h = rw (ne_eqb 0 w (λ e. omega arith))
+no_tag Arguments w h = rw (ne_eqb 0 w (λ e. omega arith), ne_eqb 1 w (λ e. omega arith))
+no_tag Elements w h = rw (ne_eqb 0 w (λ e. omega arith), ne_eqb 1 w (λ e. omega arith), ne_eqb 2 w (λ e. omega arith))
+no_tag Properties w h = rw (ne_eqb 1 w (λ e. omega arith), ne_eqb 3 w (λ e. omega arith), ne_eqb 4 w (λ e. omega arith), ne_eqb 5 w (λ e. omega arith))
+no_tag Attributes w h = rw (ne_eqb 0 w (λ e. omega arith), ne_eqb 1 w (λ e. omega arith), ne_eqb 6 w (λ e. omega arith))
 
-module _ (l : Limits) (tags img : List ℕ) (at end : ℕ) (i : end ≤ length img) where
-  pub item_short : end - at < 3 → item l tags (between img at end) ≡ nothing
+module _ (l : Limits) (tags ws : List ℕ) where
+  pub item_short : length ws < 3 → left (item l tags ws) ≡ None
   unfolding item below
-  item_short h =
-      lacking _ _ 2 (λ w ws h₁. lacking _ _ 1 (λ v vs h₂. lacking _ _ 0 (λ u us h₃. absurd (omega arith)) vs h₂) ws h₁) (between img at end) (rw (length_between img at end i) h)
+  item_short h = left_nothing (lacking _ _ 2 (λ w ws₁ h₁. lacking _ _ 1 (λ v ws₂ h₂. lacking _ _ 0 (λ u ws₃ h₃. absurd (omega arith)) ws₂ h₂) ws₁ h₁) ws h)
 
-  module _ (h : at + 3 ≤ end) where
-    pub item_tag_out : one_of tags (word img at) ≡ false → item l tags (between img at end) ≡ nothing
-    unfolding item followed
-    item_tag_out t = rw (words_3 img at end h i, passing_out)
+  -- where the first word stands for tag t
+  module _ {t w i k : ℕ} {rest : List ℕ} (e : ws ≡ w ∷ i ∷ k ∷ rest) (q : t ≡ w) where
+    pub item_tag_out : one_of tags t ≡ false → left (item l tags ws) ≡ None
+    unfolding left item followed
+    item_tag_out p = rw (e, ← q, passing_out)
 
-    pub item_identifier_out : one_of tags (word img at) ≡ true → item_identifiers l (word img at) ≤ word img (at + 1) → item l tags (between img at end) ≡ nothing
-    unfolding item followed
-    item_identifier_out t u = rw (words_3 img at end h i, passing_in, below_out)
+    pub item_identifier_out : one_of tags t ≡ true → item_identifiers l t ≤ i → left (item l tags ws) ≡ None
+    unfolding left item followed
+    item_identifier_out p h = rw (e, ← q, passing_in, below_out)
 
-    pub item_key_out : one_of tags (word img at) ≡ true → word img (at + 1) < item_identifiers l (word img at) → item_keys l (word img at) ≤ word img (at + 2) → item l tags (between img at end) ≡ nothing
-    unfolding item followed
-    item_key_out t u v = rw (words_3 img at end h i, passing_in, below_in, below_out)
+    pub item_key_out : one_of tags t ≡ true → i < item_identifiers l t → item_keys l t ≤ k → left (item l tags ws) ≡ None
+    unfolding left item followed
+    item_key_out p h g = rw (e, ← q, passing_in, below_in, below_out)
 
-    pub item_in : one_of tags (word img at) ≡ true → word img (at + 1) < item_identifiers l (word img at) → word img (at + 2) < item_keys l (word img at) → Ended img end (item l tags (between img at end)) (at + 3)
-    unfolding item followed
-    item_in t u v =
-        record { value = record { tag = word img at; id = word img (at + 1); key = word img (at + 2) }; within = h; reads = rw (words_3 img at end h i, passing_in, below_in, below_in) }
+    pub item_in : one_of tags t ≡ true → i < item_identifiers l t → k < item_keys l t → left (item l tags ws) ≡ Some rest
+    unfolding left item followed
+    item_in p h g = rw (e, ← q, passing_in, below_in, below_in)
 
 -- two runs of items
-pub runs_out : (l : Limits) (first : List ℕ) (n : ℕ) (rest : List ℕ) (m : ℕ) (ws : List ℕ) → many (item l first) n ws ≡ nothing → runs l first n rest m ws ≡ nothing
-unfolding runs followed
-runs_out l first n rest m ws e = rw e
+module _ (l : Limits) (first : List ℕ) (n : ℕ) (others : List ℕ) (m : ℕ) (ws : List ℕ) where
+  runs_leave : left (runs l first n others m ws) ≡ elim (left (many (item l first) n ws)) [ None ↦ None | Some vs ↦ left (many (item l others) m vs) ]
+  unfolding runs
+  runs_leave = left_followed (many (item l first) n ws) _ (λ vs. left (many (item l others) m vs)) (λ is vs. left_made (many (item l others) m vs) (λ (js : List Item). is ++ js))
 
-pub runs_in : (l : Limits) (first : List ℕ) (n : ℕ) (rest : List ℕ) (m : ℕ) (img : List ℕ) (end : ℕ) (ws : List ℕ) {next : ℕ} {r : Next} → Ended img end (many (item l first) n ws) next → Ends img end (many (item l rest) m (between img next end)) r → Ends img end (runs l first n rest m ws) r
-unfolding runs followed
-runs_in l first n rest m img end ws e p = rw e.reads (ends_then (λ (js : List Item). e.value ++ js) p)
+  pub runs_out : left (many (item l first) n ws) ≡ None → left (runs l first n others m ws) ≡ None
+  runs_out e = runs_leave ∙ rw e
 
-object_tags : (aux : ℕ) → (aux ≡ 0 → ⊥) → pattern_tags aux ≡ property_tags
-unfolding pattern_tags
-object_tags zero h = absurd (h refl)
-object_tags (suc n) h = refl
+  pub runs_in : {rest : List ℕ} → left (many (item l first) n ws) ≡ Some rest → left (runs l first n others m ws) ≡ left (many (item l others) m rest)
+  runs_in e = runs_leave ∙ rw e
 
--- the items of a form that a number stands for
-module _ (l : Limits) (c aux n : ℕ) (ws : List ℕ) where
-  pub pattern_out : c % 10 ≡ 6 → n < 1 → items_of l (items_coded c) aux n ws ≡ nothing
-  unfolding items_of items_coded
-  pattern_out p h = rw (eq-eqb _ _ p, items_coded, lt-leb 1 n h, items_of)
+-- the items of a form
+module _ (l : Limits) (aux n : ℕ) (ws : List ℕ) where
+  pub places_out : (p : ℕ) (tags : List ℕ) → n < p → left (items_of l (places_then p tags) aux n ws) ≡ None
+  unfolding left items_of
+  places_out p tags h = rw (lt-leb p n h, items_of)
 
-  pub pattern_array : c % 10 ≡ 6 → 1 ≤ n → aux ≡ 0 → items_of l (items_coded c) aux n ws ≡ runs l (tags_of 3) (n - 1) (tags_of 1) 1 ws
-  unfolding items_of items_coded pattern_tags tags_of
-  pattern_array p h a = rw (eq-eqb _ _ p, items_coded, le-leb 1 n h, items_of, a)
+  pub places_in : (p : ℕ) (tags : List ℕ) (m : ℕ) → p + m ≡ n → items_of l (places_then p tags) aux n ws ≡ runs l (0 ∷ []) p tags m ws
+  unfolding items_of
+  places_in p tags m h =
+      let q : n - p ≡ m = omega arith in
+      let g : p ≤ n = omega arith in
+      rw (le-leb p n g, items_of, q)
 
-  pub pattern_object : c % 10 ≡ 6 → 1 ≤ n → (aux ≡ 0 → ⊥) → items_of l (items_coded c) aux n ws ≡ runs l (tags_of 4) (n - 1) (tags_of 1) 1 ws
-  unfolding items_of items_coded tags_of
-  pattern_object p h a = rw (eq-eqb _ _ p, items_coded, le-leb 1 n h, items_of, object_tags aux a)
+  pub pattern_out : n < 1 → left (items_of l pattern aux n ws) ≡ None
+  unfolding left items_of
+  pattern_out h = rw (lt-leb 1 n h, items_of)
 
-  pub places_out : (c % 10 ≡ 6 → ⊥) → n < c / 10 % 10 → items_of l (items_coded c) aux n ws ≡ nothing
-  unfolding items_of items_coded
-  places_out p h = rw (ne_eqb _ _ p, items_coded, lt-leb _ n h, items_of)
-
-  pub places_in : (c % 10 ≡ 6 → ⊥) → c / 10 % 10 ≤ n → items_of l (items_coded c) aux n ws ≡ runs l (tags_of 1) (c / 10 % 10) (tags_of (c % 10)) (n - c / 10 % 10) ws
-  unfolding items_of items_coded tags_of
-  places_in p h = rw (ne_eqb _ _ p, items_coded, le-leb _ n h, items_of)
+  pub pattern_in : (m : ℕ) → 1 + m ≡ n → items_of l pattern aux n ws ≡ runs l (pattern_tags aux) m (0 ∷ []) 1 ws
+  unfolding items_of
+  pattern_in m h =
+      let q : n - 1 ≡ m = omega arith in
+      let g : 1 ≤ n = omega arith in
+      rw (le-leb 1 n g, items_of, q)

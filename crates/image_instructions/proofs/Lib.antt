@@ -1,6 +1,7 @@
-pub mod Cursor
+pub mod Forms
+pub mod Steps
 pub mod Readers
-pub mod Coded
 pub mod Items
 pub mod Noting
 pub mod Instructions
+pub mod NotedMany

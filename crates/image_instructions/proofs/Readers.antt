@@ -1,102 +1,133 @@
--- Identifiers, parameters, phis and terminals at a cursor: what each test that code makes says of the reader. Assumes nothing.
-use Prim.Native.Nat.{ℕ, zero, suc, ◌+◌, ◌-◌, ◌≤◌, ◌<◌}
-use native.Mathlib.Omega.{arith}
-use mathlib.Core.Path.{◌≡◌, refl}
-use mathlib.Core.Logic.{◌⊎◌, inl, inr}
-use mathlib.Core.Option.{Option, none, some}
-use mathlib.Core.List.{List, ◌∷◌}
-use lib.ListN.{length}
+-- Readers of parts: which words each leaves, where the words are as the code has found them. Assumes nothing.
+use Rattle.std.proofs.Common.{◌≡◌, ℕ, zero, suc, ◌-◌, ◌<◌, ◌≤◌, List, [], ◌∷◌, length, take, drop, get_or, refl, ◌∙◌, ◌⊎◌, inl, inr, arith}
+use Rattle.std.specs.Prelude.{Option, Some, None}
 use Rattle.image.specs.declared.Limits.{Limits}
-use Rattle.image.specs.Image.{word}
-use Rattle.image.specs.Read.{nothing, got, followed, passing, below, counted, between}
+use Rattle.image.specs.Read.{Read, nothing, got, followed, passing, any, below, many, counted}
 use Rattle.image.specs.Body.{identifier, param, phi_node, terminal, terminal_of}
-use Rattle.image_instructions.specs.Cursor.{Ended}
-use Rattle.image.proofs.Reading.{words_0, words_1, words_2, length_between, lacking, below_in, below_out}
+use Rattle.image_instructions.specs.Reads.{left, steps, counted_steps}
+use Rattle.std.proofs.lemmas.List.{take_rest}
+use Rattle.image.proofs.Reading.{below_in, below_out, lacking}
 
--- the bound of a terminal's second word, by its first
-abbrev pub Second : Limits → ℕ → ℕ → Type 0
-Second l t b = ((t ≡ 0) × (b ≡ 1)) ⊎ ((t ≡ 0 → ⊥) × (b ≡ l.identifiers))
+-- what one reader after another leaves
+pub left_followed : {A B : Type 0} (o : Read A) (k : A → List ℕ → Read B) (f : List ℕ → Option (List ℕ)) → ((a : A) (ws : List ℕ) → left (k a ws) ≡ f ws) → left (followed o k) ≡ elim (left o) [ None ↦ None | Some ws ↦ f ws ]
+unfolding left followed
+left_followed nothing k f h = refl
+left_followed (got a ws) k f h = h a ws
 
-second_out : (l : Limits) (t b w : ℕ) (ws : List ℕ) → Second l t b → b ≤ w → terminal_of l t (w ∷ ws) ≡ nothing
-unfolding terminal_of identifier followed
-second_out l zero b w ws (inl p) h = let q : 1 ≤ w = omega arith in rw below_out
-second_out l zero b w ws (inr p) h = absurd (p.0 refl)
-second_out l (suc t) b w ws (inl p) h = absurd (omega arith)
-second_out l (suc t) b w ws (inr p) h = let q : l.identifiers ≤ w = omega arith in rw below_out
+-- a reader that only makes another value of what it read
+pub left_made : {A B : Type 0} (o : Read A) (g : A → B) → left (followed o (λ a ws. got (g a) ws)) ≡ left o
+unfolding left followed
+left_made nothing g = refl
+left_made (got a ws) g = refl
 
-second_in : (l : Limits) (t b w : ℕ) (ws : List ℕ) → Second l t b → w < b → (v : Option ℕ) × (terminal_of l t (w ∷ ws) ≡ got v ws)
-unfolding terminal_of identifier followed
-second_in l zero b w ws (inl p) h = let q : w < 1 = omega arith in (none, rw below_in)
-second_in l zero b w ws (inr p) h = absurd (p.0 refl)
-second_in l (suc t) b w ws (inl p) h = absurd (omega arith)
-second_in l (suc t) b w ws (inr p) h = let q : w < l.identifiers = omega arith in (some w, rw below_in)
+-- many of a thing are as many steps
+pub many_steps : {A : Type 0} (r : List ℕ → Read A) (n : ℕ) (ws : List ℕ) → left (many r n ws) ≡ steps (λ vs. left (r vs)) n ws
+unfolding left many steps
+many_steps r zero ws = refl
+many_steps r (suc n) ws = left_followed (r ws) _ (steps (λ vs. left (r vs)) n) (λ a vs. left_made (many r n vs) _ ∙ many_steps r n vs)
 
-module _ (l : Limits) (img : List ℕ) (at end : ℕ) (i : end ≤ length img) where
-  pub identifier_none : end ≤ at → identifier l (between img at end) ≡ nothing
-  unfolding identifier below passing
-  identifier_none h = rw (words_0 img at end h)
+pub counted_leaves : {A : Type 0} (r : List ℕ → Read A) (ws : List ℕ) → left (counted r ws) ≡ counted_steps (λ vs. left (r vs)) ws
+unfolding left counted any passing followed counted_steps
+counted_leaves r [] = refl
+counted_leaves r (n ∷ ws) = many_steps r n ws
 
-  pub identifier_out : at + 1 ≤ end → l.identifiers ≤ word img at → identifier l (between img at end) ≡ nothing
-  unfolding identifier
-  identifier_out h t = rw (words_1 img at end h i, below_out)
+-- as many words and more, as a pattern finds them
+pub two_words : (ws : List ℕ) → 2 ≤ length ws → ws ≡ get_or ws 0 0 ∷ get_or ws 1 0 ∷ take (length ws - 2) (drop 2 ws)
+two_words [] h = absurd (omega arith)
+two_words (u ∷ []) h = absurd (omega arith)
+two_words (u ∷ v ∷ ws) h = rw (take_rest (u ∷ v ∷ ws) 2)
 
-  pub identifier_in : at + 1 ≤ end → word img at < l.identifiers → Ended img end (identifier l (between img at end)) (at + 1)
-  unfolding identifier
-  identifier_in h t = record { value = word img at; within = omega arith; reads = rw (words_1 img at end h i, below_in) }
+pub three_words : (ws : List ℕ) → 3 ≤ length ws → ws ≡ get_or ws 0 0 ∷ get_or ws 1 0 ∷ get_or ws 2 0 ∷ take (length ws - 3) (drop 3 ws)
+three_words [] h = absurd (omega arith)
+three_words (u ∷ []) h = absurd (omega arith)
+three_words (u ∷ v ∷ []) h = absurd (omega arith)
+three_words (u ∷ v ∷ w ∷ ws) h = rw (take_rest (u ∷ v ∷ w ∷ ws) 3)
 
-  pub param_short : end - at < 2 → param l (between img at end) ≡ nothing
-  unfolding param identifier below
-  param_short h =
-      lacking _ _ 1 (λ w ws h₁. lacking _ _ 0 (λ v vs h₂. absurd (omega arith)) ws h₁) (between img at end) (rw (length_between img at end i) h)
+pub four_words : (ws : List ℕ) → 4 ≤ length ws → ws ≡ get_or ws 0 0 ∷ get_or ws 1 0 ∷ get_or ws 2 0 ∷ get_or ws 3 0 ∷ take (length ws - 4) (drop 4 ws)
+four_words [] h = absurd (omega arith)
+four_words (t ∷ []) h = absurd (omega arith)
+four_words (t ∷ u ∷ []) h = absurd (omega arith)
+four_words (t ∷ u ∷ v ∷ []) h = absurd (omega arith)
+four_words (t ∷ u ∷ v ∷ w ∷ ws) h = rw (take_rest (t ∷ u ∷ v ∷ w ∷ ws) 4)
 
-  pub param_spread_out : at + 2 ≤ end → 2 ≤ word img at → param l (between img at end) ≡ nothing
-  unfolding param identifier followed
-  param_spread_out h t = rw (words_2 img at end h i, below_out)
+-- nothing is left of nothing, and of nothing else
+pub nothing_left : {A : Type 0} (o : Read A) → left o ≡ None → o ≡ nothing
+unfolding left
+nothing_left nothing e = refl
+nothing_left (got a ws) e = cc
 
-  pub param_out : at + 2 ≤ end → word img at < 2 → l.identifiers ≤ word img (at + 1) → param l (between img at end) ≡ nothing
-  unfolding param identifier followed
-  param_out h s t = rw (words_2 img at end h i, below_in, below_out)
+pub left_nothing : {A : Type 0} {o : Read A} → o ≡ nothing → left o ≡ None
+unfolding left
+left_nothing e = rw e
 
-  pub param_in : at + 2 ≤ end → word img at < 2 → word img (at + 1) < l.identifiers → Ended img end (param l (between img at end)) (at + 2)
-  unfolding param identifier followed
-  param_in h s t = record { value = record { spread = word img at; id = word img (at + 1) }; within = h; reads = rw (words_2 img at end h i, below_in, below_in) }
-
-  pub phi_none : end ≤ at → phi_node l (between img at end) ≡ nothing
-  unfolding phi_node identifier below passing followed
-  phi_none h = rw (words_0 img at end h)
-
-  pub phi_place_out : at + 1 ≤ end → l.identifiers ≤ word img at → phi_node l (between img at end) ≡ nothing
-  unfolding phi_node identifier followed
-  phi_place_out h t = rw (words_1 img at end h i, below_out)
-
-  pub phi_out : at + 1 ≤ end → word img at < l.identifiers → counted (identifier l) (between img (at + 1) end) ≡ nothing → phi_node l (between img at end) ≡ nothing
-  unfolding phi_node identifier followed
-  phi_out h t e = rw (words_1 img at end h i, below_in, e)
-
-  pub phi_in : at + 1 ≤ end → word img at < l.identifiers → {next : ℕ} → Ended img end (counted (identifier l) (between img (at + 1) end)) next → Ended img end (phi_node l (between img at end)) next
-  unfolding phi_node identifier followed
-  phi_in h t e = record { value = record { place = word img at; operands = e.value }; within = e.within; reads = rw (words_1 img at end h i, below_in, e.reads) }
-
-  pub terminal_short : end - at < 2 → terminal l (between img at end) ≡ nothing
-  unfolding terminal terminal_of identifier below
-  terminal_short h = lacking _ _ 1 second (between img at end) (rw (length_between img at end i) h)
+module _ (l : Limits) (ws : List ℕ) where
+  pub identifier_none : length ws ≡ 0 → left (identifier l ws) ≡ None
+  unfolding left identifier below passing
+  identifier_none h = go ws h
     where
-      second : (t : ℕ) (ws : List ℕ) → length ws < 1 → terminal_of l t ws ≡ nothing
-      second zero ws h = lacking _ _ 0 (λ v vs h₂. absurd (omega arith)) ws h
-      second (suc t) ws h = lacking _ _ 0 (λ v vs h₂. absurd (omega arith)) ws h
+      go : (vs : List ℕ) → length vs ≡ 0 → left (identifier l vs) ≡ None
+      go [] h = refl
+      go (v ∷ vs) h = absurd (omega arith)
 
-  pub terminal_out : at + 2 ≤ end → 2 ≤ word img at → terminal l (between img at end) ≡ nothing
-  unfolding terminal followed
-  terminal_out h t = rw (words_2 img at end h i, below_out)
+  pub identifier_in : {i : ℕ} {rest : List ℕ} → ws ≡ i ∷ rest → i < l.identifiers → left (identifier l ws) ≡ Some rest
+  unfolding left identifier
+  identifier_in e h = rw (e, below_in)
 
-  terminal_next : at + 2 ≤ end → word img at < 2 → terminal l (between img at end) ≡ terminal_of l (word img at) (word img (at + 1) ∷ between img (at + 2) end)
-  unfolding terminal followed
-  terminal_next h t = rw (words_2 img at end h i, below_in)
+  pub identifier_out : {i : ℕ} {rest : List ℕ} → ws ≡ i ∷ rest → l.identifiers ≤ i → left (identifier l ws) ≡ None
+  unfolding left identifier
+  identifier_out e h = rw (e, below_out)
 
-  pub terminal_second_out : at + 2 ≤ end → word img at < 2 → {b : ℕ} → Second l (word img at) b → b ≤ word img (at + 1) → terminal l (between img at end) ≡ nothing
-  terminal_second_out h t s q = rw (terminal_next h t) (second_out l _ _ _ _ s q)
+  pub param_short : length ws < 2 → left (param l ws) ≡ None
+  unfolding param identifier below
+  param_short h = left_nothing (lacking _ _ 1 (λ v vs h₁. lacking _ _ 0 (λ u us h₂. absurd (omega arith)) vs h₁) ws h)
 
-  pub terminal_in : at + 2 ≤ end → word img at < 2 → {b : ℕ} → Second l (word img at) b → word img (at + 1) < b → Ended img end (terminal l (between img at end)) (at + 2)
-  terminal_in h t s q =
-      let (v, e) = second_in l _ _ _ (between img (at + 2) end) s q in
-      record { value = v; within = h; reads = rw (terminal_next h t) e }
+  pub param_kind_out : {k i : ℕ} {rest : List ℕ} → ws ≡ k ∷ i ∷ rest → 2 ≤ k → left (param l ws) ≡ None
+  unfolding left param followed
+  param_kind_out e h = rw (e, below_out)
+
+  pub param_out : {k i : ℕ} {rest : List ℕ} → ws ≡ k ∷ i ∷ rest → k < 2 → l.identifiers ≤ i → left (param l ws) ≡ None
+  unfolding left param identifier followed
+  param_out e h g = rw (e, below_in, below_out)
+
+  pub param_in : {k i : ℕ} {rest : List ℕ} → ws ≡ k ∷ i ∷ rest → k < 2 → i < l.identifiers → left (param l ws) ≡ Some rest
+  unfolding left param identifier followed
+  param_in e h g = rw (e, below_in, below_in)
+
+  pub phi_out : left (identifier l ws) ≡ None → left (phi_node l ws) ≡ None
+  unfolding phi_node
+  phi_out e = left_followed (identifier l ws) _ (λ vs. left (counted (identifier l) vs)) (λ p vs. left_made (counted (identifier l) vs) _) ∙ rw e
+
+  pub phi_in : {rest : List ℕ} → left (identifier l ws) ≡ Some rest → left (phi_node l ws) ≡ left (counted (identifier l) rest)
+  unfolding phi_node
+  phi_in e = left_followed (identifier l ws) _ (λ vs. left (counted (identifier l) vs)) (λ p vs. left_made (counted (identifier l) vs) _) ∙ rw e
+
+  pub terminal_short : length ws < 2 → left (terminal l ws) ≡ None
+  unfolding terminal terminal_of identifier below
+  terminal_short h = left_nothing (lacking _ _ 1 second ws h)
+    where
+      second : (t : ℕ) (vs : List ℕ) → length vs < 1 → terminal_of l t vs ≡ nothing
+      second zero vs h = lacking _ _ 0 (λ u us h₂. absurd (omega arith)) vs h
+      second (suc t) vs h = lacking _ _ 0 (λ u us h₂. absurd (omega arith)) vs h
+
+  pub terminal_kind_out : {t i : ℕ} {rest : List ℕ} → ws ≡ t ∷ i ∷ rest → 2 ≤ t → left (terminal l ws) ≡ None
+  unfolding left terminal followed
+  terminal_kind_out e h = rw (e, below_out)
+
+  -- the second word of a terminal has a bound by its kind
+  module _ {t i b : ℕ} {rest : List ℕ} (e : ws ≡ t ∷ i ∷ rest) (h : t < 2) (d : ((t ≡ 0) × (b ≡ 1)) ⊎ ((t ≡ 0 → ⊥) × (b ≡ l.identifiers))) where
+    terminal_second : left (terminal l ws) ≡ left (below b (i ∷ rest))
+    unfolding left terminal terminal_of identifier followed
+    terminal_second = elim d [
+      | inl (z, q) ↦ rw (e, below_in 2 t (i ∷ rest) h, z, q) (left_made (below 1 (i ∷ rest)) _)
+      | inr (n, q) ↦
+          let k : t ≡ 1 = omega arith in
+          rw (e, below_in 2 t (i ∷ rest) h, k, q) (left_made (below l.identifiers (i ∷ rest)) _)
+    ]
+
+    pub terminal_out : b ≤ i → left (terminal l ws) ≡ None
+    unfolding left
+    terminal_out g = terminal_second ∙ rw below_out
+
+    pub terminal_in : i < b → left (terminal l ws) ≡ Some rest
+    unfolding left
+    terminal_in g = terminal_second ∙ rw below_in

@@ -1,3 +1,3 @@
-pub mod Cursor
-pub mod Coded
+pub mod Forms
+pub mod Reads
 pub mod Marks

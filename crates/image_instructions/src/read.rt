@@ -1,113 +1,109 @@
-// Parts of a body of which only the end matters: identifiers, parameters, phis, terminals.
-ghost use Rattle.image.specs.Read.{many, counted, between};
-ghost use Rattle.image.specs.Body.{identifier, param, phi_node, terminal as terminal_of};
-ghost use Rattle.image_instructions.specs.Cursor.{Cursor, Ends};
+// Readers of the parts of a body that name no function. Each takes the words that are left, and answers those after the part, or nothing
+// where a word is not allowed at its position or is missing. The words are no field of a reader behind a `&mut`: that took small images
+// a quarter longer.
+ghost use Rattle.image.specs.Read.{counted as counted_of};
+ghost use Rattle.image.specs.Body.{identifier as identifier_of, param as param_of, phi_node, terminal as terminal_of};
+ghost use Rattle.image_instructions.specs.Reads.{left, Leaves, Repeats, Counts};
 
 use image::{Limits, markers};
 
-// Where reading goes on, or that a word is not allowed at its position or is missing.
-#[derive(Clone, Copy)]
-pub enum Next {
-    Broken,
-    To(usize),
+// So many of what `read` reads.
+pub(crate) fn many<'a, F: Fn(&'a [u32]) -> Option<&'a [u32]>>(
+    n: u32,
+    words: &'a [u32],
+    read: F,
+) -> Option<&'a [u32]>
+    requires { F.IsAlwaysCallable read }
+    ensures { Repeats (F.post read) n words.now result }
+{
+    let mut rest = words;
+    for _ in 0..n {
+        rest = read(rest)?;
+    }
+    Some(rest)
 }
 
-// n identifiers
-fn identifiers(img: &[u32], l: Limits, from: usize, end: usize, n: u32) -> Next
-    requires { Cursor img.now from end }
-    ensures { Ends img.now end (many (identifier l) n (between img.now from end)) result }
+// A count, and that many.
+fn counted<'a, F: Fn(&'a [u32]) -> Option<&'a [u32]>>(
+    words: &'a [u32],
+    read: F,
+) -> Option<&'a [u32]>
+    requires { F.IsAlwaysCallable read }
+    ensures { Counts (F.post read) words.now result }
 {
-    let mut at = from;
-    let mut k: u32 = 0;
-    while k < n {
-        if at >= end {
-            return Next::Broken;
-        }
-        if img[at] >= l.identifiers {
-            return Next::Broken;
-        }
-        at += 1;
-        k += 1;
+    let (n, rest) = words.split_first()?;
+    many(*n, rest, read)
+}
+
+fn identifier(limits: Limits, words: &[u32]) -> Option<&[u32]>
+    ensures { Leaves (left (identifier_of limits words.now)) result }
+{
+    let (identifier, rest) = words.split_first()?;
+    if *identifier < limits.identifiers {
+        Some(rest)
+    } else {
+        None
     }
-    Next::To(at)
 }
 
 // A count, and that many identifiers.
-pub fn identifier_list(img: &[u32], l: Limits, at: usize, end: usize) -> Next
-    requires { Cursor img.now at end }
-    ensures { Ends img.now end (counted (identifier l) (between img.now at end)) result }
+pub fn identifiers(limits: Limits, words: &[u32]) -> Option<&[u32]>
+    ensures { Leaves (left (counted_of (identifier_of limits) words.now)) result }
 {
-    if at >= end {
-        return Next::Broken;
-    }
-    identifiers(img, l, at + 1, end, img[at])
+    counted(words, |rest| identifier(limits, rest))
 }
 
-// n parameters: 0 or 1, and an identifier.
-pub fn params(img: &[u32], l: Limits, from: usize, end: usize, n: u32) -> Next
-    requires { Cursor img.now from end }
-    ensures { Ends img.now end (many (param l) n (between img.now from end)) result }
+// 0 or 1, and an identifier.
+fn param(limits: Limits, words: &[u32]) -> Option<&[u32]>
+    ensures { Leaves (left (param_of limits words.now)) result }
 {
-    let mut at = from;
-    let mut k: u32 = 0;
-    while k < n {
-        if end - at < 2 {
-            return Next::Broken;
-        }
-        if img[at] >= markers::PARAM_KINDS {
-            return Next::Broken;
-        }
-        if img[at + 1] >= l.identifiers {
-            return Next::Broken;
-        }
-        at += 2;
-        k += 1;
+    let [kind, identifier, rest @ ..] = words else {
+        return None;
+    };
+    if *kind < markers::PARAM_KINDS && *identifier < limits.identifiers {
+        Some(rest)
+    } else {
+        None
     }
-    Next::To(at)
 }
 
-// n phis: a place, and a list of operands.
-pub fn phis(img: &[u32], l: Limits, from: usize, end: usize, n: u32) -> Next
-    requires { Cursor img.now from end }
-    ensures { Ends img.now end (many (phi_node l) n (between img.now from end)) result }
+// A count, and that many parameters.
+pub fn params(limits: Limits, words: &[u32]) -> Option<&[u32]>
+    ensures { Leaves (left (counted_of (param_of limits) words.now)) result }
 {
-    let mut at = from;
-    let mut k: u32 = 0;
-    while k < n {
-        if at >= end {
-            return Next::Broken;
-        }
-        if img[at] >= l.identifiers {
-            return Next::Broken;
-        }
-        let Next::To(next) = identifier_list(img, l, at + 1, end) else {
-            return Next::Broken;
-        };
-        at = next;
-        k += 1;
-    }
-    Next::To(at)
+    counted(words, |rest| param(limits, rest))
+}
+
+// A place, and its operands.
+fn phi(limits: Limits, words: &[u32]) -> Option<&[u32]>
+    ensures { Leaves (left (phi_node limits words.now)) result }
+{
+    let rest = identifier(limits, words)?;
+    identifiers(limits, rest)
+}
+
+// A count, and that many phis.
+pub fn phis(limits: Limits, words: &[u32]) -> Option<&[u32]>
+    ensures { Leaves (left (counted_of (phi_node limits) words.now)) result }
+{
+    counted(words, |rest| phi(limits, rest))
 }
 
 // 1 and an identifier for Return, else 0 and 0.
-pub fn terminal(img: &[u32], l: Limits, at: usize, end: usize) -> Next
-    requires { Cursor img.now at end }
-    ensures { Ends img.now end (terminal_of l (between img.now at end)) result }
+pub fn terminal(limits: Limits, words: &[u32]) -> Option<&[u32]>
+    ensures { Leaves (left (terminal_of limits words.now)) result }
 {
-    if end - at < 2 {
-        return Next::Broken;
-    }
-    let t = img[at];
-    if t >= markers::TERMINALS {
-        return Next::Broken;
-    }
-    let bound = if t == markers::NO_RETURN {
+    let [kind, identifier, rest @ ..] = words else {
+        return None;
+    };
+    let bound = if *kind == markers::NO_RETURN {
         1
     } else {
-        l.identifiers
+        limits.identifiers
     };
-    if img[at + 1] >= bound {
-        return Next::Broken;
+    if *kind < markers::TERMINALS && *identifier < bound {
+        Some(rest)
+    } else {
+        None
     }
-    Next::To(at + 2)
 }

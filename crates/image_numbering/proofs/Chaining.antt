@@ -15,27 +15,25 @@ pub record Numbered (xs ys old recent out : List ℕ) (key b : ℕ) : Type 0 whe
   pub number : (i : ℕ) → i < b → at ys i ≡ key → at recent (at xs i) ≡ at out i
 
 -- the loop's invariant
-pub record Chaining (xs ys recent₀ out₀ recent out : List ℕ) (key c : ℕ) : Type 0 where
+pub record Chaining (xs ys out₀ recent out : List ℕ) (key c : ℕ) : Type 0 where
   pub inside : c < length ys
   pub here : at ys c ≡ key
-  pub recents : length recent ≡ length recent₀
-  pub outs : length out ≡ length out₀
+  pub recents : 65536 ≤ length recent
   pub numbered : Numbered xs ys out₀ recent out key c
 
 placed : {xs ys out : List ℕ} {i : ℕ} (r : ℕ) → at out i ≡ r → r < length ys → at xs r ≡ at xs i → at ys r ≡ at ys i → Placed xs ys out i
 placed r e a b d = record { inside = rw e a; first = rw e b; second = rw e d }
 
-pub chaining_start : {xs ys next : List ℕ} {start : ℕ} (recent out : List ℕ) → Chain xs ys next start → Chaining xs ys recent out recent out (at ys start) start
-chaining_start recent out h =
+pub chaining_start : (xs : List ℕ) {ys next : List ℕ} {start : ℕ} (recent out : List ℕ) → 65536 ≤ length recent → Chain ys next start → Chaining xs ys out recent out (at ys start) start
+chaining_start xs recent out long h =
     record {
       inside = h.inside;
       here = refl;
-      recents = refl;
-      outs = refl;
+      recents = long;
       numbered = record { kept = λ i n. refl; place = λ i l e. absurd (h.first i l e); number = λ i l e. absurd (h.first i l e) };
     }
 
-module _ {xs ys recent₀ out₀ recent out : List ℕ} {key c r : ℕ} (p : Chaining xs ys recent₀ out₀ recent out key c) (hr : at xs c < length recent) (ho : c < length out) (w : Twin xs ys c (at recent (at xs c)) r) where
+module _ {xs ys out₀ recent out : List ℕ} {key c r : ℕ} (p : Chaining xs ys out₀ recent out key c) (hr : at xs c < length recent) (ho : c < length out) (w : Twin xs ys c (at recent (at xs c)) r) where
   new_here : at (set out c r) c ≡ r
   new_here = get_or-set_same out c r 0 ho
 
@@ -74,14 +72,13 @@ module _ {xs ys recent₀ out₀ recent out : List ℕ} {key c r : ℕ} (p : Cha
       let n : c < i → ⊥ = λ g. let z = f.least i g l (e ∙ sym p.here) in let y = b z.0 in omega arith in
       omega arith
 
-  pub chaining_turn : {next : List ℕ} → Followed ys next c → c < at next c → Chaining xs ys recent₀ out₀ (set recent (at xs c) r) (set out c r) key (at next c)
+  pub chaining_turn : {next : List ℕ} → Followed ys next c → c < at next c → Chaining xs ys out₀ (set recent (at xs c) r) (set out c r) key (at next c)
   chaining_turn {next} f h =
       let below : (i : ℕ) → i < at next c → at ys i ≡ key → i < c + 1 = λ i l e. none_between f i (omega (arith, f.inside)) e (λ g. l) in
       record {
         inside = f.inside;
         here = f.key ∙ p.here;
         recents = rw length-set p.recents;
-        outs = rw length-set p.outs;
         numbered =
             record {
               kept = numbered_next.kept;

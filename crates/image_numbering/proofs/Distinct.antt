@@ -1,31 +1,19 @@
 -- Names that are equal or different, and rows with different names. Assumes nothing.
 use Prim.Native.Nat.{ℕ, zero, suc, ◌+◌, ◌≤◌, ◌<◌}
 use native.Mathlib.Omega.{arith}
-use native.Mathlib.Decide.{dec_lt}
-use mathlib.Core.Path.{◌≡◌, refl, sym, ap, ap₂, ◌∙◌}
-use mathlib.Core.Bool.{Bool, true, false, true≢false, false≢true}
-use mathlib.Core.List.{List, [], ◌∷◌}
-use lib.Dec.{eqb}
-use borrow.Author.Tests.{eq-eqb, eqb-true}
+use mathlib.Core.Path.{◌≡◌, refl, sym, ap, ◌∙◌}
+use mathlib.Core.Bool.{Bool, true, false, true≢false}
+use mathlib.Core.List.{List}
+use Rattle.std.proofs.lemmas.Slice.Eq.{bytes_eq-Decides}
 use Rattle.names.specs.Names.{same}
 use Rattle.image.specs.Check.{among, distinct}
 use Rattle.image_numbering.specs.Blocks.{name_of}
 
 pub same_self : (a : List ℕ) → same a a ≡ true
-unfolding same
-same_self [] = refl
-same_self (x ∷ xs) = rw (eq-eqb x x refl, same) (same_self xs)
+same_self a = (bytes_eq-Decides a a).1 refl
 
 pub same_equal : (a b : List ℕ) → same a b ≡ true → a ≡ b
-unfolding same
-same_equal [] [] e = refl
-same_equal [] (y ∷ ys) e = absurd (false≢true e)
-same_equal (x ∷ xs) [] e = absurd (false≢true e)
-same_equal (x ∷ xs) (y ∷ ys) e = go (eqb x y) refl (same_equal xs ys)
-  where
-    go : (t : Bool) → eqb x y ≡ t → (same xs ys ≡ true → xs ≡ ys) → x ∷ xs ≡ y ∷ ys
-    go true q r = ap₂ ◌∷◌ (eqb-true x y q) (r (rw (q, same) at e))
-    go false q r = absurd (false≢true (rw (q, same) at e))
+same_equal a b = (bytes_eq-Decides a b).0
 
 pub same_apart : (a b : List ℕ) → (a ≡ b → ⊥) → same a b ≡ false
 same_apart a b n = go (same a b) refl
@@ -70,11 +58,3 @@ module _ (img bytes : List ℕ) where
       go false q r =
           let d : k ≡ i → ⊥ = λ p. true≢false (sym (among_yes (name_of img bytes k) (suc k) n j (omega arith) (omega arith) (rw p e)) ∙ q) in
           rw (q, distinct) (r (omega arith))
-
-  -- rows with different names, two by two
-  pub distinct_apart : (k n i j : ℕ) → distinct img bytes k n ≡ true → k ≤ i → i < k + n → k ≤ j → j < k + n → (i ≡ j → ⊥) → same (name_of img bytes i) (name_of img bytes j) ≡ false
-  distinct_apart k n i j t a b c d m = same_apart _ _ (go (dec_lt i j))
-    where
-      go : Dec (i < j) → name_of img bytes i ≡ name_of img bytes j → ⊥
-      go (yes l) e = true≢false (sym t ∙ distinct_no k n i j a l d e)
-      go (no l) e = true≢false (sym t ∙ distinct_no k n j i c (omega arith) b (sym e))

@@ -1,13 +1,13 @@
 -- Blocks of one byte, and of twice as many bytes. Assumes nothing.
-use Prim.Native.Nat.{ℕ, ◌+◌, ◌-◌, ◌≤◌, ◌<◌}
+use Prim.Native.Nat.{ℕ, ◌+◌, ◌≤◌, ◌<◌}
 use native.Mathlib.Omega.{arith}
 use mathlib.Core.Path.{◌≡◌, sym, ap, ap₂, ◌∙◌}
 use mathlib.Core.List.{List, [], ◌∷◌, ◌++◌}
-use lib.ListN.{length, take, drop, length-take, length-drop}
+use lib.ListN.{length, take, drop, length-drop}
 use lib.Seq.{drop-cons, take-take, take-add, drop_at, drop-drop, length-take-le, get_or-take, get_or-drop}
 use Rattle.image.specs.Image.{range}
-use Rattle.image_numbering.specs.Numbering.{at, Room, Pairs}
-use Rattle.image_numbering.specs.Blocks.{Work, Blocks}
+use Rattle.image_numbering.specs.Numbering.{at, Pairs}
+use Rattle.image_numbering.specs.Blocks.{Blocks}
 use Rattle.image_numbering.proofs.Pairing.{pairs_as}
 
 one_byte : (bytes : List ℕ) (i : ℕ) → i + 1 ≤ length bytes → range bytes i 1 ≡ at bytes i ∷ []
@@ -35,30 +35,13 @@ two_halves bytes i h = rw (take-add, drop-drop)
 back_half : (bytes : List ℕ) (i h : ℕ) → i + h ≤ length bytes → drop h (range bytes i (h + h)) ≡ range bytes (i + h) h
 back_half bytes i h l = rw (two_halves bytes i h) (drop_at (range bytes i h) (range bytes (i + h) h) h (length-take-le h (drop i bytes) (rw length-drop (omega arith))))
 
--- the halves of blocks of twice as many bytes are there
-module _ (bytes numbers : List ℕ) (h : ℕ) (some : 0 < h) (few : h + h ≤ length bytes) (short : length bytes ≤ 65536) (long : 65536 ≤ length numbers) where
-  pub fronts_length : length (take (length bytes - (h + h) + 1) numbers) ≡ length bytes - (h + h) + 1
-  fronts_length = length-take-le (length bytes - (h + h) + 1) numbers (omega arith)
-
-  backs_length : length (take (h + (length bytes - (h + h) + 1) - h) (drop h numbers)) ≡ length bytes - (h + h) + 1
-  backs_length = rw (length-take, length-drop) (omega arith)
-
-  pub halves : {out : List ℕ} → Pairs (length (take (h + (length bytes - (h + h) + 1) - h) (drop h numbers))) (at (take (length bytes - (h + h) + 1) numbers)) (at (take (h + (length bytes - (h + h) + 1) - h) (drop h numbers))) out → Pairs (length bytes - (h + h) + 1) (at numbers) (λ i. at numbers (i + h)) out
-  halves p =
-      pairs_as p backs_length
-      (λ i l. get_or-take (length bytes - (h + h) + 1) numbers i 0 l)
-      (λ i l. get_or-take (h + (length bytes - (h + h) + 1) - h) (drop h numbers) i 0 (omega arith) ∙ get_or-drop h numbers i 0 ∙ ap (at numbers) (omega arith))
-
-  pub halves_room : {head next recent out : List ℕ} → Work numbers head next recent out → Room (take (length bytes - (h + h) + 1) numbers) (take (h + (length bytes - (h + h) + 1) - h) (drop h numbers)) head next recent out
-  halves_room w =
-      record {
-        one_length = fronts_length ∙ sym backs_length;
-        few = rw backs_length (omega arith);
-        heads = w.head_long;
-        nexts = rw backs_length (omega (arith, w.next_long));
-        recents = w.recent_long;
-        outs = rw backs_length (omega (arith, w.out_long));
-      }
+-- the halves of blocks of twice as many bytes are pairs: the numbers from h on, m of them, beside all
+pub halves : (numbers : List ℕ) (h n m : ℕ) {out : List ℕ} → n ≤ m → n + h ≤ length numbers → Pairs (length (take n (take m (drop h numbers)))) (at (take n numbers)) (at (take n (take m (drop h numbers)))) out → Pairs n (at numbers) (λ i. at numbers (i + h)) out
+halves numbers h n m k l p =
+    pairs_as (rw (take-take n m (drop h numbers) k) at p)
+    (length-take-le n (drop h numbers) (rw length-drop (omega arith)))
+    (λ i g. get_or-take n numbers i 0 g)
+    (λ i g. get_or-take n (drop h numbers) i 0 g ∙ get_or-drop h numbers i 0 ∙ ap (at numbers) (omega arith))
 
 -- blocks of twice as many bytes, numbered by their halves
 pub doubled : {bytes numbers out : List ℕ} {h n : ℕ} → Blocks bytes numbers h → n + (h + h) ≡ length bytes + 1 → Pairs n (at numbers) (λ i. at numbers (i + h)) out → Blocks bytes out (h + h)
@@ -73,7 +56,3 @@ doubled {bytes} {h = h} b e p =
           ∙ ap₂ ◌++◌ (b.apart i j (omega arith) (omega arith) (p.firsts i j (omega arith) (omega arith) q)) (b.apart (i + h) (j + h) (omega arith) (omega arith) (p.seconds i j (omega arith) (omega arith) q))
           ∙ sym (two_halves bytes j h);
     }
-
--- there are no blocks of more bytes than there are
-pub blocks_none : (bytes numbers : List ℕ) (h : ℕ) → length bytes < h → Blocks bytes numbers h
-blocks_none bytes numbers h l = record { same = λ i j k. absurd (omega arith); apart = λ i j k. absurd (omega arith) }

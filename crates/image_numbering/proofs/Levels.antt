@@ -4,13 +4,14 @@ use native.Mathlib.Omega.{arith}
 use native.Mathlib.Decide.{dec_lt}
 use mathlib.Core.Path.{◌≡◌, refl, sym, ap, ap₂, ◌∙◌}
 use mathlib.Core.List.{List, ◌++◌}
-use lib.ListN.{length, take, drop, replicate, length-drop, length-replicate}
+use lib.ListN.{length, take, drop, replicate, length-drop}
 use lib.Seq.{take-take, take-add, drop_at, drop-drop, length-take-le}
 use Rattle.image.specs.declared.Table.TheVariants.{Properties}
 use Rattle.image.specs.Image.{count, range, name_at}
 use Rattle.image.specs.Laid.{NamesInside}
 use Rattle.image_numbering.specs.Numbering.{at}
-use Rattle.image_numbering.specs.Blocks.{start_of, length_of, name_of, NamesIn, Blocks, Spans, Ended, Ends}
+use Rattle.image_numbering.specs.Blocks.{start_of, length_of, name_of, Blocks, Ends}
+use Rattle.image_numbering.proofs.Ending.{Spans, Ended}
 
 -- the first and the last h bytes of a range
 range_front : (bytes : List ℕ) (s h l : ℕ) → h ≤ l → take h (range bytes s l) ≡ range bytes s h
@@ -26,10 +27,6 @@ range_back : (bytes : List ℕ) (s h l : ℕ) → h ≤ l → s + l ≤ length b
 range_back bytes s h l k m =
     ap (drop (l - h)) (range_split bytes s h l k) ∙ drop_at (range bytes s (l - h)) (range bytes (s + l - h) h) (l - h) (length-take-le (l - h) (drop s bytes) (rw length-drop (omega arith)))
 
--- names lie within whatever the name bytes do
-pub names_in : {img bytes : List ℕ} {total : ℕ} → NamesInside img bytes → length bytes ≤ total → NamesIn img total
-names_in n l = record { laid = n.laid; property = n.property; name = λ p h. omega (arith, n.name _ (n.property p h)) }
-
 module _ {img bytes : List ℕ} (n : NamesInside img bytes) where
   name_fits : (p : ℕ) → p < count Properties img → start_of img p + length_of img p ≤ length bytes
   name_fits p h = n.name _ (n.property p h)
@@ -41,16 +38,6 @@ module _ {img bytes : List ℕ} (n : NamesInside img bytes) where
   -- equal names have one length
   pub one_length : (p q : ℕ) → p < count Properties img → q < count Properties img → name_of img bytes p ≡ name_of img bytes q → length_of img p ≡ length_of img q
   one_length p q h k e = sym (name_length p h) ∙ ap length e ∙ name_length q k
-
-  -- no name is shorter than one byte and not empty
-  pub ends_start : (fronts backs : List ℕ) → ((p : ℕ) → at fronts p ≡ 0) → ((p : ℕ) → at backs p ≡ 0) → Ends img bytes fronts backs 1
-  unfolding name_at
-  ends_start fronts backs f b =
-      record {
-        front = λ p q h k l e. f p ∙ sym (f q);
-        back = λ p q h k l e. b p ∙ sym (b q);
-        apart = λ p q h k l e x y. let u : length_of img p ≡ 0 = omega arith in let v : length_of img q ≡ 0 = omega arith in rw (u, v);
-      }
 
   module _ {numbers fronts₀ backs₀ fronts backs : List ℕ} {h : ℕ} (o : Ends img bytes fronts₀ backs₀ h) (b : Blocks bytes numbers h) (w : Ended img numbers fronts₀ backs₀ fronts backs h (count Properties img)) where
     -- a name shorter than twice h is shorter than h or spans h bytes
@@ -123,14 +110,17 @@ ends_end o l =
       apart = λ p q hp hq k. o.apart p q hp hq (omega arith);
     }
 
--- lists of zeros, to start with
+-- zeros, to start with: no name is shorter than one byte and not empty
 zero_at : (n p : ℕ) → at (replicate n 0) p ≡ 0
 zero_at zero p = refl
 zero_at (suc n) zero = refl
 zero_at (suc n) (suc p) = zero_at n p
 
-pub ends_zeros : {img bytes : List ℕ} (n : ℕ) → NamesInside img bytes → Ends img bytes (replicate n 0) (replicate n 0) 1
-ends_zeros n i = ends_start i (replicate n 0) (replicate n 0) (zero_at n) (zero_at n)
-
-pub zeros_long : (n : ℕ) → n ≤ length {A = ℕ} (replicate n 0)
-zeros_long n = omega (arith, length-replicate {A = ℕ} n 0)
+pub ends_zeros : (img bytes : List ℕ) (n : ℕ) → Ends img bytes (replicate n 0) (replicate n 0) 1
+unfolding name_at
+ends_zeros img bytes n =
+    record {
+      front = λ p q h k l e. zero_at n p ∙ sym (zero_at n q);
+      back = λ p q h k l e. zero_at n p ∙ sym (zero_at n q);
+      apart = λ p q h k l e x y. let u : length_of img p ≡ 0 = omega arith in let v : length_of img q ≡ 0 = omega arith in rw (u, v);
+    }

@@ -1,7 +1,6 @@
 pub mod Linking
 pub mod Chaining
 pub mod Pairing
-pub mod Filled
 pub mod Doubling
 pub mod Ending
 pub mod Levels

@@ -2,32 +2,25 @@
 use Prim.Native.Nat.{ℕ, ◌+◌, ◌≤◌, ◌<◌}
 use native.Mathlib.Omega.{arith}
 use native.Mathlib.Decide.{ℕ_discrete}
-use mathlib.Core.Path.{◌≡◌, refl, sym, ap, ◌∙◌}
+use mathlib.Core.Path.{◌≡◌, sym, ap, ◌∙◌}
 use mathlib.Core.List.{List}
 use lib.ListN.{length, take}
 use lib.Seq.{length-take-le, get_or-take}
-use Rattle.image_numbering.specs.Numbering.{at, Linked, Chain, Placed, Chained, Room, Pairs}
+use Rattle.image_numbering.specs.Numbering.{at, Linked, Chain, Placed, Chained, Pairs}
 
 -- the loop's invariant: the keys whose first place is below j have their numbers
-pub record Pairing (xs ys head recent₀ out₀ recent out : List ℕ) (j : ℕ) : Type 0 where
-  pub within : j ≤ length ys
-  pub recents : length recent ≡ length recent₀
-  pub outs : length out ≡ length out₀
+pub record Pairing (xs ys head out : List ℕ) (j : ℕ) : Type 0 where
   pub place : (i : ℕ) → i < length ys → at head (at ys i) < j → Placed xs ys out i
   pub same : (i k : ℕ) → i < length ys → k < length ys → at head (at ys i) < j → at xs i ≡ at xs k → at ys i ≡ at ys k → at out i ≡ at out k
 
-pub pairing_start : (xs ys head recent out : List ℕ) → Pairing xs ys head recent out recent out 0
-pairing_start xs ys head recent out =
-    record { within = omega arith; recents = refl; outs = refl; place = λ i h l. absurd (omega arith); same = λ i k h g l. absurd (omega arith) }
+pub pairing_start : (xs ys head out : List ℕ) → Pairing xs ys head out 0
+pairing_start xs ys head out = record { place = λ i h l. absurd (omega arith); same = λ i k h g l. absurd (omega arith) }
 
 module _ {ys head next : List ℕ} (links : Linked ys head next 0) where
   -- a key's first place is first
-  pub chain_at : {xs recent out : List ℕ} → Room xs ys head next recent out → (j : ℕ) → j < length ys → at head (at ys j) ≡ j → Chain xs ys next j
-  chain_at room j h e =
+  pub chain_at : (j : ℕ) → j < length ys → at head (at ys j) ≡ j → Chain ys next j
+  chain_at j h e =
       record {
-        one_length = room.one_length;
-        few = room.few;
-        room = room.nexts;
         inside = h;
         first = λ m l q. let o = links.first m (omega arith) (omega arith) in let v : at head (at ys m) ≡ at head (at ys j) = ap (at head) q in omega arith;
         links = λ k l. links.next_one k (omega arith) l;
@@ -37,22 +30,19 @@ module _ {ys head next : List ℕ} (links : Linked ys head next 0) where
   key_of : (i j : ℕ) → i < length ys → at head (at ys i) ≡ j → at ys i ≡ at ys j
   key_of i j h e = sym (rw e at (links.first i (omega arith) h).key)
 
-  module _ {xs recent₀ out₀ recent out : List ℕ} {j : ℕ} (p : Pairing xs ys head recent₀ out₀ recent out j) (h : j < length ys) where
-    pub pairing_skip : (at head (at ys j) ≡ j → ⊥) → Pairing xs ys head recent₀ out₀ recent out (j + 1)
+  module _ {xs out : List ℕ} {j : ℕ} (p : Pairing xs ys head out j) (h : j < length ys) where
+    pub pairing_skip : (at head (at ys j) ≡ j → ⊥) → Pairing xs ys head out (j + 1)
     pairing_skip n =
         let below : (i : ℕ) → i < length ys → at head (at ys i) < j + 1 → at head (at ys i) < j = λ i l b.
         let d : at head (at ys i) ≡ j → ⊥ = λ e. n (ap (at head) (sym (key_of i j l e)) ∙ e) in
         omega arith
         in
         record {
-          within = omega arith;
-          recents = p.recents;
-          outs = p.outs;
           place = λ i l b. p.place i l (below i l b);
           same = λ i k l m b. p.same i k l m (below i l b);
         }
 
-    module _ (recent' out' : List ℕ) (hr : length recent' ≡ length recent) (ho : length out' ≡ length out) (e : at head (at ys j) ≡ j) (w : Chained xs ys out out' (at ys j)) where
+    module _ (out' : List ℕ) (e : at head (at ys j) ≡ j) (w : Chained xs ys out out' (at ys j)) where
       -- an earlier key is another one
       other_key : (i : ℕ) → at head (at ys i) < j → at ys i ≡ at ys j → ⊥
       other_key i b q = let v : at head (at ys i) ≡ at head (at ys j) = ap (at head) q in omega arith
@@ -72,17 +62,14 @@ module _ {ys head next : List ℕ} (links : Linked ys head next 0) where
           let d : at head (at ys k) < j = rw y at c in
           w.kept i (other_key i c) ∙ p.same i k l m c x y ∙ sym (w.kept k (other_key k d))
 
-      pub pairing_turn : Pairing xs ys head recent₀ out₀ recent' out' (j + 1)
+      pub pairing_turn : Pairing xs ys head out' (j + 1)
       pairing_turn =
           record {
-            within = omega arith;
-            recents = hr ∙ p.recents;
-            outs = ho ∙ p.outs;
             place = λ i l b. place_next i l b (ℕ_discrete (at head (at ys i)) j);
             same = λ i k l m b x y. same_next i k l m b x y (ℕ_discrete (at head (at ys i)) j);
           }
 
-  pub pairing_end : {xs recent₀ out₀ recent out : List ℕ} {j : ℕ} → Pairing xs ys head recent₀ out₀ recent out j → length ys ≤ j → Pairs (length ys) (at xs) (at ys) out
+  pub pairing_end : {xs out : List ℕ} {j : ℕ} → Pairing xs ys head out j → length ys ≤ j → Pairs (length ys) (at xs) (at ys) out
   pairing_end {xs} {out = out} {j = j} p h =
       let all : (i : ℕ) → i < length ys → at head (at ys i) < j = λ i l. omega (arith, (links.first i (omega arith) l).low) in
       record {
@@ -100,12 +87,6 @@ pairs_as p e u v =
       seconds = λ i j h k t. sym (v i h) ∙ p.seconds i j (omega arith) (omega arith) t ∙ v j k;
     }
 
--- the first n places of two lists, and the room to number them
-module _ (n : ℕ) (xs ys : List ℕ) (hx : n ≤ length xs) (hy : n ≤ length ys) where
-  pub pairs_front : {out : List ℕ} → Pairs (length (take n ys)) (at (take n xs)) (at (take n ys)) out → Pairs n (at xs) (at ys) out
-  pairs_front p = pairs_as p (length-take-le n ys hy) (λ i l. get_or-take n xs i 0 l) (λ i l. get_or-take n ys i 0 l)
-
-  pub room_front : (head next recent out : List ℕ) → n ≤ 65536 → 65536 ≤ length head → n ≤ length next → 65536 ≤ length recent → n ≤ length out → Room (take n xs) (take n ys) head next recent out
-  room_front head next recent out few hh hn hr ho =
-      let e : length (take n ys) ≡ n = length-take-le n ys hy in
-      record { one_length = length-take-le n xs hx ∙ sym e; few = rw e few; heads = hh; nexts = rw e hn; recents = hr; outs = rw e ho }
+-- the first n places of two lists
+pub pairs_front : (n : ℕ) (xs ys : List ℕ) {out : List ℕ} → n ≤ length ys → Pairs (length (take n ys)) (at (take n xs)) (at (take n ys)) out → Pairs n (at xs) (at ys) out
+pairs_front n xs ys h p = pairs_as p (length-take-le n ys h) (λ i l. get_or-take n xs i 0 l) (λ i l. get_or-take n ys i 0 l)

@@ -6,7 +6,7 @@ use mathlib.Core.Path.{◌≡◌, sym, ap, ◌∙◌}
 use mathlib.Core.Logic.{⊎_elim}
 use mathlib.Core.List.{List}
 use lib.ListN.{length, take}
-use lib.Seq.{length-take-le, get_or-take}
+use lib.Seq.{get_or-take}
 use lib.Dec.{leb}
 use borrow.Author.Tests.{le-leb, lt-leb}
 use Rattle.image.specs.declared.Table.TheVariants.{Properties}
@@ -48,13 +48,10 @@ rows_numbered {img} {bytes} i o a e b =
     short p h = omega (arith, i.name _ (i.property p h))
 
 -- the first row that repeats a name decides
-pub reaches : {img bytes numbers head next reach : List ℕ} {n : ℕ} → RowsNumbered img bytes numbers → n ≡ count Properties img → n ≤ length numbers → Linked (take n numbers) head next 0 → ((p : ℕ) → p < n → Nearest next n (at reach p) p) → Reaches img bytes reach
-reaches {img} {bytes} {numbers} {head} {next} {reach} {n} r e l links near =
+pub reaches : {img bytes numbers head next reach : List ℕ} {n : ℕ} → RowsNumbered img bytes numbers → n ≡ count Properties img → length (take n numbers) ≡ n → Linked (take n numbers) head next 0 → ((p : ℕ) → p < n → Nearest next n (at reach p) p) → Reaches img bytes reach
+reaches {img} {bytes} {numbers} {head} {next} {reach} {n} r e long links near =
     record { decides = λ p m h k. go p m h k (dec_le (p + m) (at reach p)) }
   where
-    long : length (take n numbers) ≡ n
-    long = length-take-le n numbers l
-
     number : (i : ℕ) → i < n → at (take n numbers) i ≡ at numbers i
     number i h = get_or-take n numbers i 0 h
 

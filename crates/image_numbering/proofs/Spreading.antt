@@ -33,20 +33,20 @@ nearest_turn {next} {n} {e} {p} {r} o s k w =
 -- the loop's invariant
 pub record Spreading (n : ℕ) (next₀ next : List ℕ) (end p : ℕ) : Type 0 where
   pub within : p ≤ n
-  pub one_length : length next ≡ length next₀
+  pub long : n ≤ length next
   pub left : (j : ℕ) → j < p → at next j ≡ at next₀ j
   pub done : (j : ℕ) → p ≤ j → j < n → Nearest next₀ n (at next j) j
   pub here : Nearest next₀ n end p
 
-pub spreading_start : (n : ℕ) (next : List ℕ) → Spreading n next next n n
-spreading_start n next =
-    record { within = omega arith; one_length = refl; left = λ j l. refl; done = λ j l m. absurd (omega arith); here = nearest_end next n }
+pub spreading_start : (n : ℕ) (next : List ℕ) → n ≤ length next → Spreading n next next n n
+spreading_start n next h =
+    record { within = omega arith; long = h; left = λ j l. refl; done = λ j l m. absurd (omega arith); here = nearest_end next n }
 
-pub spreading_turn : {n : ℕ} {next₀ next : List ℕ} {end p r : ℕ} → Spreading n next₀ next end p → 0 < p → n ≤ length next → Nearer (p - 1) (at next (p - 1)) end r → Spreading n next₀ (set next (p - 1) r) r (p - 1)
-spreading_turn {n} {next₀} {next} {end} {p} {r} i s k w =
+pub spreading_turn : {n : ℕ} {next₀ next : List ℕ} {end p r : ℕ} → Spreading n next₀ next end p → 0 < p → Nearer (p - 1) (at next (p - 1)) end r → Spreading n next₀ (set next (p - 1) r) r (p - 1)
+spreading_turn {n} {next₀} {next} {end} {p} {r} i s w =
     record {
       within = omega (arith, i.within);
-      one_length = rw length-set i.one_length;
+      long = rw length-set i.long;
       left = λ j l. get_or-set_other next (p - 1) j r 0 (omega arith) ∙ i.left j (omega arith);
       done = λ j l m. go j l m (ℕ_discrete j (p - 1));
       here = new;
@@ -56,5 +56,5 @@ spreading_turn {n} {next₀} {next} {end} {p} {r} i s k w =
     new = nearest_turn i.here s i.within (rw (i.left (p - 1) (omega arith)) at w)
 
     go : (j : ℕ) → p - 1 ≤ j → j < n → Dec (j ≡ p - 1) → Nearest next₀ n (at (set next (p - 1) r) j) j
-    go j l m (yes d) = let h : p - 1 < length next = omega (arith, i.within) in rw (d, get_or-set_same next (p - 1) r 0) new
+    go j l m (yes d) = let h : p - 1 < length next = omega (arith, i.within, i.long) in rw (d, get_or-set_same next (p - 1) r 0) new
     go j l m (no d) = rw (get_or-set_other next (p - 1) j r 0 d) (i.done j (omega arith) m)

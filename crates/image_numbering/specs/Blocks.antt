@@ -1,8 +1,7 @@
 -- Numbers for blocks of the name bytes and for the names of property rows: what the contracts of the code that gives them say. Assumes nothing.
-use Rattle.std.specs.Prelude.{ℕ, ◌+◌, ◌-◌, ◌≤◌, ◌<◌, ◌≡◌, ◌⊎◌, List, length, leb}
+use Rattle.std.specs.Prelude.{ℕ, ◌+◌, ◌≤◌, ◌<◌, ◌≡◌, ◌⊎◌, List, length, leb}
 use Rattle.image.specs.declared.Table.TheVariants.{Names, Properties}
 use Rattle.image.specs.Image.{count, cell, range, name_at}
-use Rattle.image.specs.Laid.{Laid}
 use Rattle.image.specs.Check.{distinct}
 use Rattle.image_numbering.specs.Numbering.{at}
 
@@ -16,45 +15,10 @@ length_of img p = cell Names img (cell Properties img p 0) 1
 abbrev pub name_of : (img bytes : List ℕ) → ℕ → List ℕ
 name_of img bytes p = name_at img bytes (cell Properties img p 0)
 
--- a property row, with its name
-pub record PropertyIn (img : List ℕ) (p : ℕ) : Type 0 where
-  pub laid : Laid img
-  pub row : p < count Properties img
-  pub name : cell Properties img p 0 < count Names img
-
--- the names of property rows lie within so many bytes
-pub record NamesIn (img : List ℕ) (total : ℕ) : Type 0 where
-  pub laid : Laid img
-  pub property : (p : ℕ) → p < count Properties img → cell Properties img p 0 < count Names img
-  pub name : (p : ℕ) → p < count Properties img → start_of img p + length_of img p ≤ total
-
--- room for a number at each name byte and for each number
-pub record Work (numbers head next recent out : List ℕ) : Type 0 where
-  pub numbers_long : 65536 ≤ length numbers
-  pub head_long : 65536 ≤ length head
-  pub next_long : 65536 ≤ length next
-  pub recent_long : 65536 ≤ length recent
-  pub out_long : 65536 ≤ length out
-
 -- blocks of h bytes have one number exactly if they are equal
 pub record Blocks (bytes numbers : List ℕ) (h : ℕ) : Type 0 where
   pub same : (i j : ℕ) → i + h ≤ length bytes → j + h ≤ length bytes → range bytes i h ≡ range bytes j h → at numbers i ≡ at numbers j
   pub apart : (i j : ℕ) → i + h ≤ length bytes → j + h ≤ length bytes → at numbers i ≡ at numbers j → range bytes i h ≡ range bytes j h
-
--- a name of h bytes or more, and of fewer than twice as many
-pub record Spans (img : List ℕ) (h p : ℕ) : Type 0 where
-  pub long : h ≤ length_of img p
-  pub short : length_of img p < h + h
-
--- of the first n rows, those whose names span h bytes have their values, and the others what they had
-pub record Spanned (img : List ℕ) (value : ℕ → ℕ) (xs₀ xs : List ℕ) (h n : ℕ) : Type 0 where
-  pub stored : (p : ℕ) → p < n → Spans img h p → at xs p ≡ value p
-  pub kept : (p : ℕ) → (Spans img h p → ⊥) → at xs p ≡ at xs₀ p
-
--- rows whose names span h bytes have the numbers of their first and of their last h bytes
-pub record Ended (img numbers fronts₀ backs₀ fronts backs : List ℕ) (h n : ℕ) : Type 0 where
-  pub front : Spanned img (λ p. at numbers (start_of img p)) fronts₀ fronts h n
-  pub back : Spanned img (λ p. at numbers (start_of img p + length_of img p - h)) backs₀ backs h n
 
 -- of names shorter than h, those of one length are equal exactly if the numbers of their ends are
 pub record Ends (img bytes fronts backs : List ℕ) (h : ℕ) : Type 0 where

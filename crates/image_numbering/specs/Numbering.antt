@@ -5,11 +5,6 @@ use Rattle.std.specs.Prelude.{ℕ, ◌≤◌, ◌<◌, ◌≡◌, List, length, 
 abbrev pub at : List ℕ → ℕ → ℕ
 at xs i = get_or xs i 0
 
--- the first n places have their values, and the list the length of another
-pub record Filled (value : ℕ → ℕ) (xs₀ xs : List ℕ) (n : ℕ) : Type 0 where
-  pub one_length : length xs ≡ length xs₀
-  pub content : (k : ℕ) → k < n → at xs k ≡ value k
-
 -- r is t where t is a later place than i with the same key, and i or such a place anyway
 pub record Later (ys : List ℕ) (i t r : ℕ) : Type 0 where
   pub high : i ≤ r
@@ -43,10 +38,7 @@ pub record Twin (xs ys : List ℕ) (c f r : ℕ) : Type 0 where
   pub found : f < length ys → at xs f ≡ at xs c → at ys f ≡ at ys c → r ≡ f
 
 -- what the numbering of one key's places asks: the first of them, linked with the others
-pub record Chain (xs ys next : List ℕ) (start : ℕ) : Type 0 where
-  pub one_length : length xs ≡ length ys
-  pub few : length ys ≤ 65536
-  pub room : length ys ≤ length next
+pub record Chain (ys next : List ℕ) (start : ℕ) : Type 0 where
   pub inside : start < length ys
   pub first : (m : ℕ) → m < start → at ys m ≡ at ys start → ⊥
   pub links : (j : ℕ) → j < length ys → Followed ys next j
@@ -62,15 +54,6 @@ pub record Chained (xs ys old out : List ℕ) (key : ℕ) : Type 0 where
   pub kept : (i : ℕ) → (at ys i ≡ key → ⊥) → at out i ≡ at old i
   pub place : (i : ℕ) → i < length ys → at ys i ≡ key → Placed xs ys out i
   pub same : (i j : ℕ) → i < length ys → j < length ys → at ys i ≡ key → at ys j ≡ key → at xs i ≡ at xs j → at out i ≡ at out j
-
--- what the numbering asks of its lists: places of two lists, room for every number and for every place
-pub record Room (xs ys head next recent out : List ℕ) : Type 0 where
-  pub one_length : length xs ≡ length ys
-  pub few : length ys ≤ 65536
-  pub heads : 65536 ≤ length head
-  pub nexts : length ys ≤ length next
-  pub recents : 65536 ≤ length recent
-  pub outs : length ys ≤ length out
 
 -- places below n have one number exactly if they have one pair
 pub record Pairs (n : ℕ) (first second : ℕ → ℕ) (out : List ℕ) : Type 0 where

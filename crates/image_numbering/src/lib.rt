@@ -2,5 +2,5 @@
 #![tactic(auto)]
 
 pub mod blocks;
-mod numbering;
+pub mod numbering;
 pub mod reach;

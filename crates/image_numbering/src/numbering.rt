@@ -1,139 +1,133 @@
 // Numbers for pairs: places of two lists get one number exactly if they have one pair.
-ghost use Rattle.std.specs.Prelude.{◌≡◌, ℕ, ◌≤◌, ◌<◌, length};
-ghost use Rattle.image_numbering.specs.Numbering.{at, Later, Linked, Twin, Chain, Chained, Room, Pairs};
+ghost use Rattle.std.specs.Prelude.{◌≡◌, ℕ, ◌≤◌, ◌<◌, length, take};
+ghost use Rattle.image_numbering.specs.Numbering.{at, Later, Linked, Twin, Chain, Chained, Pairs};
+
+// Two lists side by side: a pair of numbers at each place, of which the second is the place's key.
+#[derive(Drop)]
+pub(crate) struct PairList<'a> {
+    firsts: &'a [u16],
+    keys: &'a [u16],
+    ghost one_length: { length firsts.now ≡ length keys.now },
+    ghost few: { length keys.now ≤ 65536 },
+}
+
+impl<'a> PairList<'a> {
+    // The first n places of two lists.
+    pub(crate) fn first(n: usize, firsts: &'a [u16], keys: &'a [u16]) -> Self
+        requires few { n ≤ 65536 }
+        requires firsts { n ≤ length firsts.now }
+        requires keys { n ≤ length keys.now }
+        ensures firsts { result.firsts.now ≡ take n firsts.now }
+        ensures keys { result.keys.now ≡ take n keys.now }
+    {
+        PairList {
+            firsts: &firsts[..n],
+            keys: &keys[..n],
+        }
+    }
+
+    // f where it has the pair of place c, else c.
+    fn twin(&self, c: usize, f: usize) -> usize
+        requires { c < length self.now.keys.now }
+        ensures { Twin self.now.firsts.now self.now.keys.now c f result }
+    {
+        if self.keys.len() <= f
+            || self.firsts[f] != self.firsts[c]
+            || self.keys[f] != self.keys[c]
+        {
+            c
+        } else {
+            f
+        }
+    }
+}
 
 // t where it is a later place than i with the same key, else i.
-fn later(ys: &[u16], i: usize, t: usize) -> usize
-    requires { i < length ys.now }
-    ensures { Later ys.now i t result }
+fn later(keys: &[u16], i: usize, t: usize) -> usize
+    requires { i < length keys.now }
+    ensures { Later keys.now i t result }
 {
-    if t <= i {
-        return i;
-    }
-    if ys.len() <= t {
-        return i;
-    }
-    if ys[t] != ys[i] {
-        return i;
-    }
-    t
-}
-
-// Links the places by key: head has a key's first place, next a place's next one with the same key.
-pub fn link(ys: &[u16], head: &mut [u16], next: &mut [u16])
-    requires { (length ys.now ≤ 65536) × (65536 ≤ length head.old) × (length ys.now ≤ length next.old) }
-    ensures { Linked ys.now head.new next.new 0 }
-{
-    let mut i = ys.len();
-    while 0 < i {
-        i -= 1;
-        let y = ys[i] as usize;
-        let t = head[y] as usize;
-        next[i] = later(ys, i, t) as u16;
-        head[y] = i as u16;
+    if t <= i || keys.len() <= t || keys[t] != keys[i] {
+        i
+    } else {
+        t
     }
 }
 
-// f where it has the pair of place c, else c.
-fn twin(xs: &[u16], ys: &[u16], c: usize, f: usize) -> usize
-    requires { (length xs.now ≡ length ys.now) × (c < length ys.now) }
-    ensures { Twin xs.now ys.now c f result }
-{
-    if ys.len() <= f {
-        return c;
-    }
-    if xs[f] != xs[c] {
-        return c;
-    }
-    if ys[f] != ys[c] {
-        return c;
-    }
-    f
+// Room for links between the places that have one key, and for the numbers of their pairs.
+#[derive(Drop)]
+pub struct Links {
+    // A key's first place.
+    head: [u16; 65536],
+    // A place's next one with the same key.
+    pub(crate) next: [u16; 65536],
+    // The last number given with a first number.
+    recent: [u16; 65536],
 }
 
-// Numbers the places with the key of start, the first of them. recent has at a number the last number given with it.
-fn number_chain(
-    xs: &[u16],
-    ys: &[u16],
-    next: &[u16],
-    recent: &mut [u16],
-    out: &mut [u16],
-    start: usize,
-)
-    requires chain { Chain xs.now ys.now next.now start }
-    requires in_bounds { (65536 ≤ length recent.old) × (length ys.now ≤ length out.old) }
-    ensures { Chained xs.now ys.now out.old out.new (at ys.now start) }
-{
-    let mut c = start;
-    loop {
-        let x = xs[c] as usize;
-        let f = recent[x] as usize;
-        let r = twin(xs, ys, c, f) as u16;
-        recent[x] = r;
-        out[c] = r;
-        let t = next[c] as usize;
-        if t <= c {
-            return;
+impl Links {
+    pub fn new() -> Self {
+        Links {
+            head: [0; 65536],
+            next: [0; 65536],
+            recent: [0; 65536],
         }
-        c = t;
     }
-}
 
-// Numbers the places key by key.
-fn number_chains(
-    xs: &[u16],
-    ys: &[u16],
-    head: &[u16],
-    next: &[u16],
-    recent: &mut [u16],
-    out: &mut [u16],
-)
-    requires linked { Linked ys.now head.now next.now 0 }
-    requires room { Room xs.now ys.now head.now next.now recent.old out.old }
-    ensures { Pairs (length ys.now) (at xs.now) (at ys.now) out.new }
-{
-    let mut j = 0;
-    while j < ys.len() {
-        let y = ys[j] as usize;
-        let first = head[y] as usize;
-        if first != j {
-            j += 1;
-            continue;
+    // Links the places by key.
+    pub(crate) fn link(&mut self, keys: &[u16])
+        requires { length keys.now ≤ 65536 }
+        ensures { Linked keys.now self.new.head self.new.next 0 }
+    {
+        for i in (0..keys.len()).rev() {
+            let y = keys[i] as usize;
+            self.next[i] = later(keys, i, self.head[y] as usize) as u16;
+            self.head[y] = i as u16;
         }
-        number_chain(xs, ys, next, recent, out, j);
-        j += 1;
     }
-}
 
-// Numbers the places by their pairs. head, next and recent are room.
-pub fn number_pairs(
-    xs: &[u16],
-    ys: &[u16],
-    head: &mut [u16],
-    next: &mut [u16],
-    recent: &mut [u16],
-    out: &mut [u16],
-)
-    requires { Room xs.now ys.now head.old next.old recent.old out.old }
-    ensures { Pairs (length ys.now) (at xs.now) (at ys.now) out.new }
-{
-    link(ys, head, next);
-    number_chains(xs, ys, head, next, recent, out);
-}
+    // Numbers the places with the key of start, the first of them.
+    fn number_chain(&mut self, pairs: &PairList, out: &mut [u16], start: usize)
+        requires chain { Chain pairs.now.keys.now self.old.next start }
+        requires room { length pairs.now.keys.now ≤ length out.old }
+        ensures links_kept { (self.new.head ≡ self.old.head) × (self.new.next ≡ self.old.next) }
+        ensures chained { Chained pairs.now.firsts.now pairs.now.keys.now out.old out.new (at pairs.now.keys.now start) }
+    {
+        let firsts = pairs.firsts;
+        let mut c = start;
+        // A loop and no range: the links lead on from place to place.
+        loop {
+            let x = firsts[c] as usize;
+            let number = pairs.twin(c, self.recent[x] as usize) as u16;
+            self.recent[x] = number;
+            out[c] = number;
+            let t = self.next[c] as usize;
+            if t <= c {
+                return;
+            }
+            c = t;
+        }
+    }
 
-// Numbers the first n places of two lists.
-pub fn number_first(
-    n: usize,
-    xs: &[u16],
-    ys: &[u16],
-    head: &mut [u16],
-    next: &mut [u16],
-    recent: &mut [u16],
-    out: &mut [u16],
-)
-    requires n_bound { (n ≤ 65536) × (n ≤ length xs.now) × (n ≤ length ys.now) × (n ≤ length next.old) × (n ≤ length out.old) }
-    requires in_bounds { (65536 ≤ length head.old) × (65536 ≤ length recent.old) }
-    ensures { Pairs n (at xs.now) (at ys.now) out.new }
-{
-    number_pairs(&xs[..n], &ys[..n], head, next, recent, out);
+    // Numbers the places key by key.
+    fn number_chains(&mut self, pairs: &PairList, out: &mut [u16])
+        requires linked { Linked pairs.now.keys.now self.old.head self.old.next 0 }
+        requires room { length pairs.now.keys.now ≤ length out.old }
+        ensures { Pairs (length pairs.now.keys.now) (at pairs.now.firsts.now) (at pairs.now.keys.now) out.new }
+    {
+        for (j, key) in pairs.keys.iter().enumerate() {
+            if self.head[*key as usize] as usize == j {
+                self.number_chain(pairs, out, j);
+            }
+        }
+    }
+
+    // Numbers the places by their pairs.
+    pub(crate) fn number_pairs(&mut self, pairs: &PairList, out: &mut [u16])
+        requires { length pairs.now.keys.now ≤ length out.old }
+        ensures { Pairs (length pairs.now.keys.now) (at pairs.now.firsts.now) (at pairs.now.keys.now) out.new }
+    {
+        self.link(pairs.keys);
+        self.number_chains(pairs, out);
+    }
 }

@@ -1,28 +1,24 @@
 // Up to which row the names of property rows are different.
 ghost use Rattle.std.specs.Prelude.{◌≡◌, ℕ, ◌+◌, ◌/◌, ◌%◌, ◌≤◌, ◌<◌, length};
+ghost use Rattle.image.specs.declared.Table.TheVariants.{Properties};
 ghost use Rattle.image.specs.Image.{count as count_of};
-ghost use Rattle.image.specs.Laid.{NamesInside};
-ghost use Rattle.image_numbering.specs.Numbering.{at, Filled, Pairs};
-ghost use Rattle.image_numbering.specs.Blocks.{length_of, NamesIn, Work, Ends, RowsNumbered, Nearer, Nearest, Reaches};
+ghost use Rattle.image_numbering.specs.Numbering.{at, Pairs};
+ghost use Rattle.image_numbering.specs.Blocks.{length_of, Ends, RowsNumbered, Nearer, Nearest, Reaches};
 
-use crate::blocks::{name_word, number_names};
-use crate::numbering::{link, number_first};
-use image::{Table, count};
+use crate::blocks::NameNumbers;
+use crate::numbering::{Links, PairList};
+use image::NamedImage;
 
 // The lengths of the names, as two halves of a word.
-fn split_lengths(img: &[u32], low: &mut [u16], high: &mut [u16])
-    requires { NamesIn img.now 65536 × (32768 ≤ length low.old) × (32768 ≤ length high.old) }
-    ensures filled { Filled (λ p. length_of img.now p % 65536) low.old low.new (count_of Table.Properties img.now) }
-    ensures filled_2 { Filled (λ p. length_of img.now p / 65536) high.old high.new (count_of Table.Properties img.now) }
+fn split_lengths(image: &NamedImage, low: &mut [u16; 32768], high: &mut [u16; 32768])
+    ensures low { (p : ℕ) → p < count_of Properties image.now.words → at low.new p ≡ length_of image.now.words p % 65536 }
+    ensures high { (p : ℕ) → p < count_of Properties image.now.words → at high.new p ≡ length_of image.now.words p / 65536 }
 {
-    let rows = count(img, Table::Properties);
-    let mut p: u32 = 0;
-    while p < rows {
-        let len = name_word(img, p, 1);
-        let at = p as usize;
-        low[at] = (len % 65536) as u16;
-        high[at] = (len / 65536) as u16;
-        p += 1;
+    for p in 0..image.property_rows() {
+        let name = image.property_name_range(p);
+        let length = name.end - name.start;
+        low[p as usize] = (length % 65536) as u16;
+        high[p as usize] = (length / 65536) as u16;
     }
 }
 
@@ -30,119 +26,61 @@ fn split_lengths(img: &[u32], low: &mut [u16], high: &mut [u16])
 fn nearer(p: usize, t: usize, end: usize) -> usize
     ensures { Nearer p t end result }
 {
-    if t <= p {
-        return end;
-    }
-    if end <= t {
-        return end;
-    }
-    t
+    if p < t && t < end { t } else { end }
 }
 
 // At each of n places the first one that follows a place from there on with the same key, or n.
-fn spread(n: usize, next: &mut [u16])
-    requires { (n ≤ 32768) × (n ≤ length next.old) }
+fn spread(n: usize, next: &mut [u16; 65536])
+    requires { n ≤ 32768 }
     ensures { (p : ℕ) → p < n → Nearest next.old n (at next.new p) p }
 {
     let mut end = n;
-    let mut p = n;
-    while 0 < p {
-        p -= 1;
-        let t = next[p] as usize;
-        end = nearer(p, t, end);
+    for p in (0..n).rev() {
+        end = nearer(p, next[p] as usize, end);
         next[p] = end as u16;
     }
 }
 
-// Numbers rows by a number of theirs and the length of their names. The numbers come in low.
-fn number_lengths(
-    img: &[u32],
-    ids: &[u16],
-    low: &mut [u16],
-    high: &mut [u16],
-    mid: &mut [u16],
-    head: &mut [u16],
-    next: &mut [u16],
-    recent: &mut [u16],
-)
-    requires names_in { NamesIn img.now 65536 × (32768 ≤ length ids.now) × (32768 ≤ length high.old) × (32768 ≤ length mid.old) }
-    requires work { Work low.old head.old next.old recent.old low.old }
-    ensures { Pairs (count_of Table.Properties img.now) (at ids.now) (length_of img.now) low.new }
-{
-    split_lengths(img, low, high);
-    let n = count(img, Table::Properties) as usize;
-    number_first(n, ids, low, head, next, recent, mid);
-    number_first(n, mid, high, head, next, recent, low);
+impl NameNumbers {
+    // Numbers the property rows by their names. The numbers come in other.
+    fn number_rows(&mut self, image: &NamedImage, links: &mut Links)
+        requires { Ends image.now.words image.now.names self.old.ends.fronts self.old.ends.backs 1 }
+        ensures { RowsNumbered image.now.words image.now.names self.new.other }
+    {
+        self.number_names(image, links);
+        let n = image.property_rows() as usize;
+        links.number_pairs(
+            &PairList::first(n, &self.ends.fronts, &self.ends.backs),
+            &mut self.other,
+        );
+        self.number_lengths(image, links);
+    }
+
+    // Numbers the property rows by their numbers in other and the lengths of their names.
+    fn number_lengths(&mut self, image: &NamedImage, links: &mut Links)
+        ensures { Pairs (count_of Properties image.now.words) (at self.old.other) (length_of image.now.words) self.new.other }
+    {
+        split_lengths(image, &mut self.ends.fronts, &mut self.ends.backs);
+        let n = image.property_rows() as usize;
+        links.number_pairs(
+            &PairList::first(n, &self.other, &self.ends.fronts),
+            &mut self.numbers,
+        );
+        links.number_pairs(
+            &PairList::first(n, &self.numbers, &self.ends.backs),
+            &mut self.other,
+        );
+    }
 }
 
-// Numbers the property rows by their names. The numbers come in numbers.
-fn number_rows(
-    img: &[u32],
-    bytes: &[u8],
-    numbers: &mut [u16],
-    other: &mut [u16],
-    head: &mut [u16],
-    next: &mut [u16],
-    recent: &mut [u16],
-    fronts: &mut [u16],
-    backs: &mut [u16],
-)
-    requires names_inside { NamesInside img.now bytes.now × Ends img.now bytes.now fronts.old backs.old 1 }
-    requires work { Work numbers.old head.old next.old recent.old other.old × (32768 ≤ length fronts.old) × (32768 ≤ length backs.old) }
-    ensures { RowsNumbered img.now bytes.now numbers.new }
+// At each property row, up to which row the names are different. The caller lends the room.
+pub fn reach<'a>(image: &NamedImage, links: &'a mut Links) -> &'a [u16; 65536]
+    ensures { Reaches image.now.words image.now.names result.now }
 {
-    number_names(
-        img, bytes, numbers, other, head, next, recent, fronts, backs,
-    );
-    let n = count(img, Table::Properties) as usize;
-    number_first(n, fronts, backs, head, next, recent, other);
-    number_lengths(img, other, numbers, fronts, backs, head, next, recent);
-}
-
-// At each property row, up to which row the names are different.
-fn reach_in(
-    img: &[u32],
-    bytes: &[u8],
-    numbers: &mut [u16],
-    other: &mut [u16],
-    head: &mut [u16],
-    next: &mut [u16],
-    recent: &mut [u16],
-    fronts: &mut [u16],
-    backs: &mut [u16],
-)
-    requires names_inside { NamesInside img.now bytes.now × Ends img.now bytes.now fronts.old backs.old 1 }
-    requires work { Work numbers.old head.old next.old recent.old other.old × (32768 ≤ length fronts.old) × (32768 ≤ length backs.old) }
-    ensures { Reaches img.now bytes.now next.new }
-{
-    number_rows(
-        img, bytes, numbers, other, head, next, recent, fronts, backs,
-    );
-    let n = count(img, Table::Properties) as usize;
-    link(&numbers[..n], head, next);
-    spread(n, next);
-}
-
-// The same, with its room.
-pub fn reach(img: &[u32], bytes: &[u8], ends: &mut [u16])
-    requires { NamesInside img.now bytes.now × (65536 ≤ length ends.old) }
-    ensures { Reaches img.now bytes.now ends.new }
-{
-    let mut numbers = [0u16; 65536];
-    let mut other = [0u16; 65536];
-    let mut head = [0u16; 65536];
-    let mut recent = [0u16; 65536];
-    let mut fronts = [0u16; 32768];
-    let mut backs = [0u16; 32768];
-    reach_in(
-        img,
-        bytes,
-        &mut numbers,
-        &mut other,
-        &mut head,
-        ends,
-        &mut recent,
-        &mut fronts,
-        &mut backs,
-    );
+    let mut names = NameNumbers::new();
+    names.number_rows(image, links);
+    let n = image.property_rows() as usize;
+    links.link(&names.other[..n]);
+    spread(n, &mut links.next);
+    &links.next
 }

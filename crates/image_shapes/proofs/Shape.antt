@@ -2,114 +2,55 @@
 use Prim.Native.Nat.{ℕ, zero, suc, ◌+◌, ◌-◌, ◌≤◌, ◌<◌}
 use native.Mathlib.Omega.{arith}
 use native.Mathlib.Numerals.{add-one}
-use native.Mathlib.Nat.{add-sub_cancel_left}
 use native.Mathlib.Decide.{ℕ_discrete}
 use mathlib.Core.Path.{◌≡◌, refl, sym, ap, ◌∙◌}
-use mathlib.Core.Bool.{Bool, true, false, ◌&&◌, ◌||◌, false≢true}
+use mathlib.Core.Bool.{Bool, true, false, not, ◌&&◌, ◌||◌}
 use mathlib.Core.List.{List}
-use lib.Dec.{eqb, leb}
-use borrow.Author.Tests.{le-leb, lt-leb, eq-eqb, ne_eqb, leb-true, eqb-true}
+use lib.Dec.{leb}
+use borrow.Author.Tests.{le-leb, lt-leb, eq-eqb, ne_eqb}
+use Rattle.std.specs.List.{list_any, list_all, range_with_len}
+use Rattle.std.proofs.lemmas.Bool.Decides.{nat_tests}
 use Rattle.names.specs.Names.{same}
 use Rattle.image.specs.declared.Table.{Table}
 use Rattle.image.specs.declared.Table.TheVariants.{Shapes, Properties}
 use Rattle.image.specs.Image.{count, cell}
-use Rattle.image.specs.Check.{rows_pass, each, inside, types_sound, among, distinct, shape_row_sound, shape_sound, shapes_sound}
+use Rattle.image.specs.Check.{rows_pass, each, inside, among, distinct, shape_row_sound, shape_sound, shapes_sound}
 use Rattle.image_numbering.specs.Numbering.{at}
 use Rattle.image_numbering.specs.Blocks.{name_of, Reaches}
-use Rattle.image_shapes.specs.Shapes.{shape_fits, reach_sound, large_test}
-use Rattle.image.proofs.Passed.{rows_each}
-use Rattle.image_numbering.proofs.Distinct.{distinct_apart}
+use Rattle.image_shapes.specs.Shapes.{shape_fits, reach_sound}
 
--- present, first property, count: the tests in their order
-module _ (img : List ℕ) (s : ℕ) where
-  pub present_high : 1 < cell Shapes img s 0 → shape_fits img s ≡ false
-  unfolding shape_fits
-  present_high h = rw (lt-leb _ _ h)
+module _ (img bytes : List ℕ) where
+  -- whether one of n rows from k on has this name
+  pub any_among : (name : List ℕ) (k n : ℕ) → list_any (λ j. same name (name_of img bytes j)) (range_with_len k n) ≡ among img bytes name k n
+  unfolding among
+  any_among name k zero = refl
+  any_among name k (suc n) = rw add-one (go (same name (name_of img bytes k)) (any_among name (suc k) n))
+    where
+      go : (b : Bool) → list_any (λ j. same name (name_of img bytes j)) (range_with_len (suc k) n) ≡ among img bytes name (suc k) n
+          → (b || list_any (λ j. same name (name_of img bytes j)) (range_with_len (suc k) n)) ≡ elim b [ true ↦ true | false ↦ among img bytes name (suc k) n ]
+      go true e = refl
+      go false e = e
 
-  pub rows_outside : cell Shapes img s 0 ≤ 1 → count Properties img < cell Shapes img s 1 + cell Shapes img s 2 → shape_fits img s ≡ false
-  unfolding shape_fits inside
-  rows_outside h o = rw (le-leb _ _ h, lt-leb _ _ o)
+  -- whether a row's name is that of no row after it, before the end
+  abbrev pub is_last : (end j : ℕ) → Bool
+  is_last end j = not (among img bytes (name_of img bytes j) (j + 1) (end - (j + 1)))
 
-  module _ (i : cell Shapes img s 1 + cell Shapes img s 2 ≤ count Properties img) where
-    pub is_present : cell Shapes img s 0 ≡ 1 → shape_fits img s ≡ true
-    unfolding shape_fits inside
-    is_present e = rw (e, le-leb _ _ i)
-
-    pub is_absent : cell Shapes img s 0 ≤ 1 → (cell Shapes img s 0 ≡ 1 → ⊥) → shape_fits img s ≡ eqb (cell Shapes img s 2) 0
-    unfolding shape_fits inside
-    is_absent h n = rw (le-leb _ _ h, le-leb _ _ i, ne_eqb _ _ n)
-
--- a walk over rows, from a row on and so many: after those from first to k, what is left decides
-pub record Walked (walk : ℕ → ℕ → Bool) (first end k : ℕ) : Type 0 where
-  pub low : first ≤ k
-  pub within : k ≤ end
-  pub rest : walk k (end - k) ≡ walk first (end - first)
-
-pub walked_start : (walk : ℕ → ℕ → Bool) (first end : ℕ) → first ≤ end → Walked walk first end first
-walked_start walk first end h = record { low = omega arith; within = h; rest = refl }
-
-module _ {walk : ℕ → ℕ → Bool} {first end k : ℕ} (p : Walked walk first end k) where
-  pub walked_turn : k < end → walk k (suc (end - (k + 1))) ≡ walk (k + 1) (end - (k + 1)) → Walked walk first end (k + 1)
-  walked_turn h e =
-      let q : end - k ≡ suc (end - (k + 1)) = omega arith in
-      record { low = omega (arith, p.low); within = omega arith; rest = sym (ap (walk k) q ∙ e) ∙ p.rest }
-
-  pub walked_stop : {b : Bool} → k < end → walk k (suc (end - (k + 1))) ≡ b → walk first (end - first) ≡ b
-  walked_stop h e = let q : end - k ≡ suc (end - (k + 1)) = omega arith in sym p.rest ∙ ap (walk k) q ∙ e
-
-  pub walked_end : {b : Bool} → end ≤ k → walk k 0 ≡ b → walk first (end - first) ≡ b
-  walked_end h e = let q : end - k ≡ 0 = omega arith in sym p.rest ∙ ap (walk k) q ∙ e
-
-module _ (img bytes : List ℕ) (k n : ℕ) where
-  module _ (name : List ℕ) where
-    pub among_next : same name (name_of img bytes k) ≡ false → among img bytes name k (suc n) ≡ among img bytes name (k + 1) n
-    unfolding among
-    among_next e = rw (add-one, e, among)
-
-    pub among_here : same name (name_of img bytes k) ≡ true → among img bytes name k (suc n) ≡ true
-    unfolding among
-    among_here e = rw (e, among)
-
-    pub among_none : among img bytes name k 0 ≡ false
-    unfolding among
-    among_none = refl
-
-  pub distinct_next : among img bytes (name_of img bytes k) (k + 1) n ≡ false → distinct img bytes k (suc n) ≡ distinct img bytes (k + 1) n
+  pub all_distinct : (end k n : ℕ) → k + n ≡ end → list_all (is_last end) (range_with_len k n) ≡ distinct img bytes k n
   unfolding distinct
-  distinct_next e = rw (add-one, rw add-one at e, distinct)
+  all_distinct end k zero e = refl
+  all_distinct end k (suc n) e =
+      let q : end - suc k ≡ n = omega arith in
+      rw (add-one, q) (go (among img bytes (name_of img bytes k) (suc k) n) (all_distinct end (suc k) n (omega arith)))
+    where
+      go : (b : Bool) → list_all (is_last end) (range_with_len (suc k) n) ≡ distinct img bytes (suc k) n
+          → (not b && list_all (is_last end) (range_with_len (suc k) n)) ≡ elim b [ true ↦ false | false ↦ distinct img bytes (suc k) n ]
+      go true h = refl
+      go false h = h
 
-  pub distinct_here : among img bytes (name_of img bytes k) (k + 1) n ≡ true → distinct img bytes k (suc n) ≡ false
-  unfolding distinct
-  distinct_here e = rw (rw add-one at e, distinct)
-
-  pub distinct_none : distinct img bytes k 0 ≡ true
-  unfolding distinct
-  distinct_none = refl
-
-and_both : (a b : Bool) → a && b ≡ true → (a ≡ true) × (b ≡ true)
-and_both true b e = (refl, e)
-and_both false b e = absurd (false≢true e)
-
-and_three : (a b c : Bool) → a && b && c ≡ true → (a ≡ true) × (b ≡ true) × (c ≡ true)
-and_three true true c e = (refl, refl, e)
-and_three true false c e = absurd (false≢true e)
-and_three false b c e = absurd (false≢true e)
-
--- what a shape's row that fits says
-module _ (img : List ℕ) (s : ℕ) (t : shape_fits img s ≡ true) where
-  parts : (leb (cell Shapes img s 0) 1 ≡ true) × (inside (cell Shapes img s 1) (cell Shapes img s 2) (count Properties img) ≡ true) × ((eqb (cell Shapes img s 0) 1 || eqb (cell Shapes img s 2) 0) ≡ true)
-  unfolding shape_fits
-  parts = and_three (leb (cell Shapes img s 0) 1) (inside (cell Shapes img s 1) (cell Shapes img s 2) (count Properties img)) (eqb (cell Shapes img s 0) 1 || eqb (cell Shapes img s 2) 0) t
-
-  pub fits_present : cell Shapes img s 0 ≤ 1
-  fits_present = leb-true _ _ parts.0
-
-  pub fits_inside : cell Shapes img s 1 + cell Shapes img s 2 ≤ count Properties img
-  unfolding inside
-  fits_inside = leb-true _ _ parts.1
-
-  pub fits_absent : cell Shapes img s 0 ≡ 0 → cell Shapes img s 2 ≡ 0
-  fits_absent e = eqb-true _ _ (rw e at parts.2)
+-- the rows of a shape that fits
+fits_inside : (img : List ℕ) (s : ℕ) → shape_fits img s ≡ true → cell Shapes img s 1 + cell Shapes img s 2 ≤ count Properties img
+unfolding shape_fits inside
+fits_inside img s t = grind (arith, nat_tests)
 
 -- a shape is sound if its row fits and its property rows have different names
 module _ (img bytes : List ℕ) (s : ℕ) where
@@ -121,8 +62,8 @@ module _ (img bytes : List ℕ) (s : ℕ) where
   unfolding shape_sound shape_row_sound shape_fits
   sound_fit e = ap (λ (b : Bool). elim b [ true ↦ distinct img bytes (cell Shapes img s 1) (cell Shapes img s 2) | false ↦ false ]) e
 
-  pub sound_compared : {f n : ℕ} {r : Bool} → shape_fits img s ≡ true → f ≡ cell Shapes img s 1 → n ≡ cell Shapes img s 2 → r ≡ distinct img bytes f (f + n - f) → shape_sound img bytes s ≡ r
-  sound_compared {f} {n} e p q d = sound_fit e ∙ rw (← p, ← q) (sym (d ∙ ap (distinct img bytes f) (add-sub_cancel_left f n)))
+  pub sound_compared : {f e : ℕ} {r : Bool} → shape_fits img s ≡ true → f ≡ cell Shapes img s 1 → e ≡ f + cell Shapes img s 2 → r ≡ distinct img bytes f (e - f) → shape_sound img bytes s ≡ r
+  sound_compared {f} {e} t p q d = sound_fit t ∙ rw (← p) (sym (d ∙ ap (distinct img bytes f) (omega arith)))
 
 module _ (img reach : List ℕ) (s : ℕ) where
   pub reach_unfit : shape_fits img s ≡ false → reach_sound img reach s ≡ false
@@ -140,10 +81,14 @@ module _ (img reach : List ℕ) (s : ℕ) where
 
 -- where a reach decides whether names are different, it decides whether a shape is sound
 pub reach_is_sound : (img bytes reach : List ℕ) → Reaches img bytes reach → (s : ℕ) → reach_sound img reach s ≡ shape_sound img bytes s
+unfolding distinct
 reach_is_sound img bytes reach r s = go (shape_fits img s) refl
   where
+    none : (k : ℕ) → distinct img bytes k 0 ≡ true
+    none k = refl
+
     by_count : shape_fits img s ≡ true → Dec (cell Shapes img s 2 ≡ 0) → reach_sound img reach s ≡ shape_sound img bytes s
-    by_count t (yes e) = reach_empty img reach s t e ∙ sym (sound_fit img bytes s t ∙ rw e (distinct_none img bytes (cell Shapes img s 1) 0))
+    by_count t (yes e) = reach_empty img reach s t e ∙ sym (sound_fit img bytes s t ∙ rw e (none (cell Shapes img s 1)))
     by_count t (no n) =
         reach_rows img reach s t n
         ∙ sym (sound_fit img bytes s t ∙ r.decides (cell Shapes img s 1) (cell Shapes img s 2) (omega (arith, fits_inside img s t)) (fits_inside img s t))
@@ -154,43 +99,6 @@ reach_is_sound img bytes reach r s = go (shape_fits img s) refl
 
 pub each_same : (img : List ℕ) (f g : ℕ → Bool) → ((s : ℕ) → f s ≡ g s) → each Shapes img f ≡ each Shapes img g
 each_same img f g e = ap (each Shapes img) (λ i s. e s i)
-
--- what refusal 8 leaves
-pub record ShapeSound (img bytes : List ℕ) (s : ℕ) : Type 0 where
-  pub present : cell Shapes img s 0 ≤ 1
-  pub inside_table : cell Shapes img s 1 + cell Shapes img s 2 ≤ count Properties img
-  pub absent : cell Shapes img s 0 ≡ 0 → cell Shapes img s 2 ≡ 0
-  pub apart :
-      (i j : ℕ) →
-      cell Shapes img s 1 ≤ i →
-      i < cell Shapes img s 1 + cell Shapes img s 2 →
-      cell Shapes img s 1 ≤ j →
-      j < cell Shapes img s 1 + cell Shapes img s 2 →
-      (i ≡ j → ⊥) →
-      same (name_of img bytes i) (name_of img bytes j) ≡ false
-
-module _ (img bytes : List ℕ) (t : shapes_sound img bytes ≡ true) where
-  pub nine_shapes : 9 ≤ count Shapes img
-  unfolding shapes_sound
-  nine_shapes = leb-true _ _ (and_both (leb 9 (count Shapes img)) (each Shapes img (shape_sound img bytes)) t).0
-
-  pub shape_is_sound : (s : ℕ) → s < count Shapes img → shape_sound img bytes s ≡ true
-  unfolding shapes_sound each
-  shape_is_sound s h = rows_each (shape_sound img bytes) (count Shapes img) s (and_both (leb 9 (count Shapes img)) (each Shapes img (shape_sound img bytes)) t).1 h
-
-  pub sound_shape : (s : ℕ) → s < count Shapes img → ShapeSound img bytes s
-  sound_shape s h = go (shape_fits img s) refl
-    where
-      go : (b : Bool) → shape_fits img s ≡ b → ShapeSound img bytes s
-      go false e = absurd (false≢true (sym (sound_unfit img bytes s e) ∙ shape_is_sound s h))
-      go true e =
-          let d : distinct img bytes (cell Shapes img s 1) (cell Shapes img s 2) ≡ true = sym (sound_fit img bytes s e) ∙ shape_is_sound s h in
-          record {
-            present = fits_present img s e;
-            inside_table = fits_inside img s e;
-            absent = fits_absent img s e;
-            apart = λ i j a b c k n. distinct_apart img bytes _ _ i j d a b c k n;
-          }
 
 -- a loop over the rows of a table tests each of them
 pub each_rows : (t : Table) (img : List ℕ) (test : ℕ → Bool) {n : ℕ} → n ≡ count t img → each t img test ≡ rows_pass test 0 n
@@ -208,14 +116,3 @@ module _ (img bytes : List ℕ) where
 
   pub shapes_rows : {n : ℕ} → n ≡ count Shapes img → 9 ≤ n → shapes_sound img bytes ≡ rows_pass (shape_sound img bytes) 0 n
   shapes_rows e h = enough_shapes (omega arith) ∙ each_rows Shapes img (shape_sound img bytes) e
-
--- what the tests in large arrays say of types, and of shapes
-pub large_types : (types : ℕ) (img bytes : List ℕ) → 0 < types → large_test types img bytes ≡ types_sound img
-unfolding large_test
-large_types zero img bytes l = absurd (omega arith)
-large_types (suc n) img bytes l = refl
-
-pub large_shapes : (types : ℕ) (img bytes : List ℕ) → types ≤ 0 → large_test types img bytes ≡ each Shapes img (shape_sound img bytes)
-unfolding large_test
-large_shapes zero img bytes l = refl
-large_shapes (suc n) img bytes l = absurd (omega arith)

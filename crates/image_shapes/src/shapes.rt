@@ -1,168 +1,103 @@
 // Refusal 8.
-ghost use Rattle.std.specs.Prelude.{◌≡◌, ◌+◌, ◌-◌, ◌≤◌, ◌<◌, length};
-ghost use Rattle.image.specs.Image.{count as count_of};
-ghost use Rattle.image.specs.Laid.{Laid, NamesInside};
+ghost use Rattle.std.specs.Prelude.{◌≡◌, true, false, ◌+◌, ◌-◌, ◌≤◌, ◌<◌, length, MatchOption};
+ghost use Rattle.image.specs.Image.{count as count_of, cell as cell_of};
 ghost use Rattle.image.specs.Check.{each, among, distinct, shape_sound, shapes_sound};
-ghost use Rattle.image_numbering.specs.Blocks.{name_of, NamesIn};
 ghost use Rattle.image_shapes.specs.Shapes.{shape_fits, reach_sound};
 
-use crate::large::in_large_arrays;
-use image::{Table, cell, count, name_bytes};
-use image_numbering::blocks::name_word;
+use image::{NamedImage, Table};
+use image_numbering::numbering::Links;
 use image_numbering::reach::reach;
+use std::ops::Range;
 
-// A present word of 0 or 1, and properties in their table, none under an absent shape.
-fn shape_fits(img: &[u32], s: u32) -> bool
-    requires { Laid img.now × (s < count_of Table.Shapes img.now) }
-    ensures { result ≡ shape_fits img.now s }
+// The property rows of a shape that fits: a present word of 0 or 1, and properties in their table, none under an absent shape.
+#[tactic(auto, using(std::proofs::lemmas::Bool::Decides::nat_tests), unfolding(crate::specs::Shapes::shape_fits, image::specs::Check::inside))]
+fn shape_rows(image: &NamedImage, s: u32) -> Option<Range<u32>>
+    requires { s < count_of Table.Shapes image.now.words }
+    ensures { MatchOption result (shape_fits image.now.words s ≡ false) (λ rows. (shape_fits image.now.words s ≡ true) × (rows.start ≡ cell_of Table.Shapes image.now.words s 1) × (rows.end ≡ rows.start + cell_of Table.Shapes image.now.words s 2) × (rows.end ≤ count_of Table.Properties image.now.words) × (count_of Table.Properties image.now.words ≤ 32768)) }
 {
-    let rows = count(img, Table::Properties);
-    let present = cell(img, Table::Shapes, s, 0);
-    let first = cell(img, Table::Shapes, s, 1);
-    let n = cell(img, Table::Shapes, s, 2);
-    if image::shapes::PRESENT < present {
-        return false;
+    let rows = image.property_rows();
+    let tables = image.image();
+    let present = tables.cell(Table::Shapes, s, 0);
+    let start = tables.cell(Table::Shapes, s, 1);
+    let n = tables.cell(Table::Shapes, s, 2);
+    if present > image::shapes::PRESENT || start > rows || n > rows - start {
+        return None;
     }
-    if rows < first {
-        return false;
+    if present == image::shapes::ABSENT && n > 0 {
+        return None;
     }
-    if rows - first < n {
-        return false;
-    }
-    if present == image::shapes::PRESENT {
-        return true;
-    }
-    n == 0
-}
-
-// The name bytes of a property row.
-fn row_name<'a>(img: &[u32], bytes: &'a [u8], p: u32) -> &'a [u8]
-    requires { NamesInside img.now bytes.now × (p < count_of Table.Properties img.now) }
-    ensures { result.now ≡ name_of img.now bytes.now p }
-{
-    let name = cell(img, Table::Properties, p, 0);
-    name_bytes(img, bytes, name)
+    Some(start..start + n)
 }
 
 // Whether a row from first to end has this name.
-fn is_among(img: &[u32], bytes: &[u8], name: &[u8], first: u32, end: u32) -> bool
-    requires { NamesInside img.now bytes.now × (first ≤ end) × (end ≤ count_of Table.Properties img.now) }
-    ensures { result ≡ among img.now bytes.now name.now first (end - first) }
+fn is_among(image: &NamedImage, name: &[u8], first: u32, end: u32) -> bool
+    requires { (first ≤ end) × (end ≤ count_of Table.Properties image.now.words) }
+    ensures { result ≡ among image.now.words image.now.names name.now first (end - first) }
 {
-    let mut k = first;
-    while k < end {
-        if names::same_bytes(name, row_name(img, bytes, k)) {
-            return true;
-        }
-        k += 1;
-    }
-    false
+    (first..end).any(|k| name == image.property_name(k))
 }
 
-// Whether the rows from first to end have different names, compared two by two.
-fn are_distinct(img: &[u32], bytes: &[u8], first: u32, end: u32) -> bool
-    requires { NamesInside img.now bytes.now × (first ≤ end) × (end ≤ count_of Table.Properties img.now) }
-    ensures { result ≡ distinct img.now bytes.now first (end - first) }
+// Whether the rows have different names, compared two by two.
+fn are_distinct(image: &NamedImage, rows: &Range<u32>) -> bool
+    requires { (rows.now.start ≤ rows.now.end) × (rows.now.end ≤ count_of Table.Properties image.now.words) }
+    ensures { result ≡ distinct image.now.words image.now.names rows.now.start (rows.now.end - rows.now.start) }
 {
-    let mut k = first;
-    while k < end {
-        if is_among(img, bytes, row_name(img, bytes, k), k + 1, end) {
-            return false;
-        }
-        k += 1;
-    }
-    true
+    let end = rows.end;
+    (rows.start..end).all(|k| !is_among(image, image.property_name(k), k + 1, end))
 }
 
-// Whether the rows from first to end are few, with short names: then they are compared two by two.
-fn are_few(img: &[u32], first: u32, end: u32) -> bool
-    requires { NamesIn img.now 65536 × (first ≤ end) × (end ≤ count_of Table.Properties img.now) }
+// Whether the rows are few, with short names: then they are compared two by two.
+fn are_few(image: &NamedImage, rows: &Range<u32>) -> bool
+    requires { (rows.now.start ≤ rows.now.end) × (rows.now.end ≤ count_of Table.Properties image.now.words) }
 {
-    if 64 < end - first {
-        return false;
-    }
-    let mut k = first;
-    while k < end {
-        if 64 < name_word(img, k, 1) {
-            return false;
-        }
-        k += 1;
-    }
-    true
+    rows.end - rows.start <= 64
+        && (rows.start..rows.end).all(|k| image.property_name(k).len() <= 64)
 }
 
 // Whether a shape fits and its rows end before a name is repeated.
-fn is_within(img: &[u32], ends: &[u16], s: u32) -> bool
-    requires { Laid img.now × (s < count_of Table.Shapes img.now) × (32768 ≤ length ends.now) }
-    ensures { result ≡ reach_sound img.now ends.now s }
+#[tactic(auto, using(std::proofs::lemmas::Bool::Decides::nat_tests), unfolding(crate::specs::Shapes::reach_sound))]
+fn is_within(image: &NamedImage, ends: &[u16; 65536], s: u32) -> bool
+    requires { s < count_of Table.Shapes image.now.words }
+    ensures { result ≡ reach_sound image.now.words ends.now s }
 {
-    if !shape_fits(img, s) {
-        return false;
+    match shape_rows(image, s) {
+        Some(rows) => rows.start == rows.end || rows.end <= u32::from(ends[rows.start as usize]),
+        None => false,
     }
-    let first = cell(img, Table::Shapes, s, 1) as usize;
-    let n = cell(img, Table::Shapes, s, 2) as usize;
-    if n == 0 {
-        return true;
-    }
-    let end = ends[first] as usize;
-    first + n <= end
 }
 
-// Whether each shape's rows end before a name is repeated.
-fn shapes_within(img: &[u32], ends: &[u16]) -> bool
-    requires { Laid img.now × (32768 ≤ length ends.now) }
-    ensures { result ≡ each Table.Shapes img.now (reach_sound img.now ends.now) }
+// Every shape, with the property rows numbered by their names. It is compiled apart, so that only who gets here pays for a large frame.
+#[inline(never)]
+pub fn shapes_numbered(image: &NamedImage) -> bool
+    ensures { result ≡ each Table.Shapes image.now.words (shape_sound image.now.words image.now.names) }
 {
-    let shapes = count(img, Table::Shapes);
-    let mut s: u32 = 0;
-    while s < shapes {
-        if !is_within(img, ends, s) {
-            return false;
-        }
-        s += 1;
-    }
-    true
-}
-
-// Every shape, with the property rows numbered by their names.
-pub fn shapes_numbered(img: &[u32], bytes: &[u8]) -> bool
-    requires { NamesInside img.now bytes.now }
-    ensures { result ≡ each Table.Shapes img.now (shape_sound img.now bytes.now) }
-{
-    let mut ends = [0u16; 65536];
-    reach(img, bytes, &mut ends);
-    shapes_within(img, &ends)
+    let mut links = Links::new();
+    let ends = reach(image, &mut links);
+    (0..image.image().count(Table::Shapes)).all(|s| is_within(image, ends, s))
 }
 
 // At least nine shapes, each sound. While no more rows were compared than there are, a shape of few rows is compared two by two; else all are numbered.
-pub fn shapes_sound(img: &[u32], bytes: &[u8]) -> bool
-    requires { NamesInside img.now bytes.now }
-    ensures { result ≡ shapes_sound img.now bytes.now }
+#[tactic(auto, using(crate::proofs::Shape::few_shapes))]
+pub fn shapes_sound(image: &NamedImage) -> bool
+    ensures { result ≡ shapes_sound image.now.words image.now.names }
 {
-    let shapes = count(img, Table::Shapes);
+    let shapes = image.image().count(Table::Shapes);
     if shapes < image::shapes::COUNT {
         return false;
     }
-    let mut left = count(img, Table::Properties);
-    let mut s: u32 = 0;
-    while s < shapes {
-        if !shape_fits(img, s) {
+    let mut left = image.property_rows();
+    for s in 0..shapes {
+        let Some(rows) = shape_rows(image, s) else {
             return false;
+        };
+        let n = rows.end - rows.start;
+        if left < n || !are_few(image, &rows) {
+            return shapes_numbered(image);
         }
-        let first = cell(img, Table::Shapes, s, 1);
-        let n = cell(img, Table::Shapes, s, 2);
-        let end = first + n;
-        if left < n {
-            return in_large_arrays(img, bytes, 0);
-        }
-        if !are_few(img, first, end) {
-            return in_large_arrays(img, bytes, 0);
-        }
-        if !are_distinct(img, bytes, first, end) {
+        if !are_distinct(image, &rows) {
             return false;
         }
         left -= n;
-        s += 1;
     }
     true
 }

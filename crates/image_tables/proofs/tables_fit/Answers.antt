@@ -1,13 +1,15 @@
-use Rattle.image.specs.Check.{tables_fit}
-use Rattle.image.proofs.Tests.{join}
+use Rattle.std.proofs.Common.{rules}
+use Rattle.std.proofs.Math.Bool.{and-true}
+use mathlib.Core.Path.{refl, ◌∙◌}
+use Rattle.std.proofs.lemmas.Iterator.{YieldsList-from_slice}
+use Rattle.std.proofs.lemmas.Iterator.Search.{all_from_yields_List}
+use Rattle.image.specs.Check.{table_fits, tables_fit}
+use Rattle.image.specs.declared.Table.TheVariants.{Functions}
+use Rattle.image.specs.declared.TheConstants.{TABLES}
 use Rattle.image_tables.proofs.tables_fit.Goals as goal
 
 pub returns : goal.returns
 unfolding tables_fit
-returns c = join _ _ c.both.ensures c.table_fits-7.ensures
-    (join _ _ c.both-b.ensures c.table_fits-6.ensures
-    (join _ _ c.both-c.ensures c.table_fits-5.ensures
-    (join _ _ c.both-d.ensures c.table_fits-4.ensures
-    (join _ _ c.both-e.ensures c.table_fits-3.ensures
-    (join _ _ c.both-f.ensures c.table_fits-2.ensures
-    (join _ _ c.both-g.ensures c.table_fits.ensures c.table_fits-h.ensures))))))
+returns c =
+    let fits = table_fits c.args.header.now in
+    all_from_yields_List fits _ _ _ c.all.ensures.ran (YieldsList-from_slice TABLES (cc)) (λ x b q k. search rules) ∙ rw (and-true (fits Functions)) refl

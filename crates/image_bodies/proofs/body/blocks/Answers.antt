@@ -1,24 +1,24 @@
-use mathlib.Core.Path.{refl}
+use Rattle.std.proofs.Common.{refl, ◌∙◌}
 use Rattle.image.specs.Nesting.{named_by_blocks}
-use Rattle.image_instructions.specs.Marks.{unread}
 use Rattle.image_bodies.proofs.BlockReaders.{blocks_row}
-use Rattle.image_instructions.proofs.Cursor.{reading_fails}
-use Rattle.image_instructions.proofs.Noting.{notes_broken, notes_at, noted_start, noted_turn, noted_end}
-use native.Mathlib.Omega.{arith}
+use Rattle.image_instructions.proofs.NotedMany.{reading_start, reading_fails, reading_turn, reading_end, counted_none, counted_is}
 use Rattle.image_bodies.proofs.body.blocks.Goals as goal
 
-pub loop-k-init : goal.loop-k-init
+pub returns-in_err-n : goal.returns-in_err-n
+returns-in_err-n g c = rw c.from_residual.ensures (counted_none _ _ c.in_err-n.ensures.cases)
+
+pub loop-init : goal.loop-init
 unfolding named_by_blocks
-loop-k-init c = noted_start _ _ _ _ _ _ _ _ refl (omega arith)
+loop-init g c = reading_start _ _ _ _ _ refl
 
-pub block-requires : goal.block-requires
-block-requires c = record { cursor = omega arith; functions_in_bounds = omega arith }
+pub returns-in_err-rest : goal.returns-in_err-rest
+returns-in_err-rest g c =
+    rw c.from_residual-in_err-rest.ensures
+    (counted_is _ _ c.in_ok-n.ensures.cases.0 ∙ reading_fails _ _ c.loop.invariant c.loop-test.true c.in_err-rest.ensures)
 
-pub returns-in_default : goal.returns-in_default
-returns-in_default c = unread (reading_fails c.loop-k.invariant.reading (omega arith) (notes_broken c.in_default.is c.block.ensures))
-
-pub loop-k-preserved : goal.loop-k-preserved
-loop-k-preserved c = noted_turn c.loop-k.invariant blocks_row (omega arith) (notes_at c.in-To.is c.block.ensures) c.block.auto.marks
+pub loop-preserved : goal.loop-preserved
+loop-preserved g c =
+    reading_turn _ _ c.loop.invariant blocks_row c.loop-test.true c.in_ok-rest.ensures
 
 pub returns : goal.returns
-returns c = noted_end c.loop-k.invariant (omega arith)
+returns g c = rw (counted_is _ _ c.in_ok-n.ensures.cases.0) (reading_end _ _ c.loop.invariant c.loop-test.false)

@@ -1,29 +1,27 @@
-use Rattle.image_instructions.specs.Marks.{unread}
-use Rattle.image_instructions.proofs.Cursor.{ends_broken, ends_at}
-use Rattle.image_bodies.proofs.BlockReaders.{body_short, body_type_out, body_returns_out, body_params_out, body_context_out, body_blocks_none, body_in}
-use native.Mathlib.Omega.{arith}
+use Rattle.image_instructions.proofs.Readers.{two_words}
+use Rattle.image_bodies.proofs.BlockReaders.{body_short, body_type_out, body_returns_out, body_params_out, body_context_out, body_answer}
 use Rattle.image_bodies.proofs.body.body.Goals as goal
-
-pub returns-then-end-at-lt3 : goal.returns-then-end-at-lt3
-returns-then-end-at-lt3 c = unread (body_short _ _ _ _ (omega arith) (omega arith))
-
-pub returns-then-img-at-ge-FN_TYPES : goal.returns-then-img-at-ge-FN_TYPES
-returns-then-img-at-ge-FN_TYPES c = unread (body_type_out _ _ _ _ (omega arith) (omega arith) (omega arith))
-
-pub returns-then-img-at : goal.returns-then-img-at
-returns-then-img-at c = unread (body_returns_out _ _ _ _ (omega arith) (omega arith) (omega arith) (omega arith))
+use Rattle.image_bodies.proofs.body.body.Goals.{then-kind-ge-FN_TYPES-via-then-kind-ge-FN_TYPES, then-kind-ge-FN_TYPES-via-else-kind-ge-FN_TYPES+then-returns-reader}
 
 pub returns-in_default : goal.returns-in_default
-returns-in_default c = unread (body_params_out _ _ _ _ (omega arith) (omega arith) (omega arith) (omega arith) (ends_broken c.in_default.is c.params.ensures))
+returns-in_default g c = body_short _ _ c.in_default.len_below
 
-pub identifier_list-requires : goal.identifier_list-requires
-identifier_list-requires c = omega (arith, (ends_at c.in-To.is c.params.ensures).within)
+pub returns-then-kind-ge-FN_TYPES : goal.returns-then-kind-ge-FN_TYPES
+returns-then-kind-ge-FN_TYPES g c = elim c.then-kind-ge-FN_TYPES.branch [
+  | then-kind-ge-FN_TYPES-via-then-kind-ge-FN_TYPES w ↦ body_type_out _ _ (two_words _ c.in-len2-up.len_at_least) w.if-kind-ge-FN_TYPES.true
+  | then-kind-ge-FN_TYPES-via-else-kind-ge-FN_TYPES+then-returns-reader w ↦
+      body_returns_out _ _ (two_words _ c.in-len2-up.len_at_least) w.if-kind-ge-FN_TYPES.false w.if-returns-reader.true
+]
 
-pub returns-in_default-identifier_list : goal.returns-in_default-identifier_list
-returns-in_default-identifier_list c = unread (body_context_out _ _ _ _ (omega arith) (omega arith) (omega arith) (omega arith) (ends_at c.in-To.is c.params.ensures) (ends_broken c.in_default-identifier_list.is c.identifier_list.ensures))
+pub returns-in_err-rest : goal.returns-in_err-rest
+returns-in_err-rest g c =
+    rw c.from_residual.ensures (body_params_out _ _ (two_words _ c.in-len2-up.len_at_least) c.if-kind-ge-FN_TYPES.false c.if-returns-reader.false c.in_err-rest.ensures)
 
-pub returns-then-b-end : goal.returns-then-b-end
-returns-then-b-end c = unread (body_blocks_none _ _ _ _ (omega arith) (omega arith) (omega arith) (omega arith) (ends_at c.in-To.is c.params.ensures) (ends_at c.in-To-identifier_list.is c.identifier_list.ensures) (omega arith))
+pub returns-in_err-rest-2 : goal.returns-in_err-rest-2
+returns-in_err-rest-2 g c =
+    rw c.from_residual-in_err-rest-2.ensures
+    (body_context_out _ _ (two_words _ c.in-len2-up.len_at_least) c.if-kind-ge-FN_TYPES.false c.if-returns-reader.false c.in_ok-rest.ensures c.in_err-rest-2.ensures)
 
 pub returns : goal.returns
-returns c = body_in _ _ _ _ (omega arith) (omega arith) (omega arith) (omega arith) (ends_at c.in-To.is c.params.ensures) (ends_at c.in-To-identifier_list.is c.identifier_list.ensures) (omega arith) c.blocks-2.ensures
+returns g c =
+    body_answer _ _ (two_words _ c.in-len2-up.len_at_least) c.if-kind-ge-FN_TYPES.false c.if-returns-reader.false c.in_ok-rest.ensures c.in_ok-rest-2.ensures _ _ _ c.blocks-2.ensures

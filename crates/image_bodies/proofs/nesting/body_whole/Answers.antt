@@ -1,14 +1,16 @@
-use Rattle.image_instructions.specs.Marks.{unsound}
-use Rattle.image_instructions.proofs.Noting.{notes_broken, notes_at}
-use Rattle.image_bodies.proofs.Nested.{functions_limited, body_unread, body_end}
-use native.Mathlib.Omega.{arith}
+use Rattle.std.proofs.Common.{sym, ap, ◌∙◌}
+use Rattle.image.specs.declared.Limits.{Limits}
+use Rattle.image.specs.Body.{body}
+use Rattle.image_bodies.specs.Answer.{unsound}
+use Rattle.image_bodies.proofs.Nested.{body_unread, body_read}
 use Rattle.image_bodies.proofs.nesting.body_whole.Goals as goal
 
-pub body-requires : goal.body-requires
-body-requires c = record { cursor = omega (arith, c.requires.inside.body c.args.f c.requires.row, functions_limited _ _ c.requires.limited); functions_in_bounds = omega (arith, c.requires.inside.body c.args.f c.requires.row, functions_limited _ _ c.requires.limited) }
-
 pub returns-in_default : goal.returns-in_default
-returns-in_default c = unsound (body_unread _ _ _ _ _ c.requires.limited c.cell-at.ensures c.cell.ensures (notes_broken c.in_default.is c.body.ensures))
+returns-in_default g c =
+    unsound (body_unread _ _ c.body.ensures (ap (λ (l : Limits). body l c.body.result.now) (sym c.requires.limits) ∙ c.in_default.ensures))
 
 pub returns : goal.returns
-returns c = body_end _ _ _ _ _ c.requires.limited c.cell-at.ensures c.cell.ensures (omega (arith, c.requires.inside.body c.args.f c.requires.row)) (notes_at c.in-To.is c.body.ensures)
+returns g c =
+    let n = c.in-Some.ensures in
+    body_read _ _ c.body.ensures n.value _ (ap (λ (l : Limits). body l c.body.result.now) (sym c.requires.limits) ∙ n.reads)
+    (record { limits = n.noting.limits; stands = λ {s} p. n.noting.stands p }) c.is_empty.ensures

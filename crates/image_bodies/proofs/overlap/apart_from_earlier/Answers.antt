@@ -1,33 +1,16 @@
-use native.Mathlib.Omega.{arith}
-use mathlib.Core.Path.{sym}
-use Rattle.image.specs.Check.{apart_from_earlier}
-use Rattle.image.proofs.Passed.{passed_start, passed_turn, passed_fails, passed_end}
-use Rattle.image_bodies.proofs.Spans.{apart_after, apart_before, apart_not, end_small, after_all, before_all}
+use Rattle.std.proofs.Common.{rules, refl, sym}
+use Rattle.image.specs.Check.{apart, apart_from_earlier}
+use Rattle.image.proofs.RowsByAll.{rows_by_all}
+use Rattle.image_bodies.proofs.Spans.{after_all, before_all}
 use Rattle.image_bodies.proofs.overlap.apart_from_earlier.Goals as goal
-use Rattle.image_bodies.proofs.overlap.apart_from_earlier.Goals.{else-other-end, then-other-end+else-start-other}
+use Rattle.image_bodies.proofs.overlap.apart_from_earlier.Goals.{then-earlier-start-via-then-earlier-start, then-earlier-start-via-else-earlier-start+then-end-earlier}
 
-pub overflow_add-end : goal.overflow_add-end
-overflow_add-end c = omega (arith, end_small c.requires.inside c.requires.row)
-
-pub returns-then-high-start : goal.returns-then-high-start
-returns-then-high-start c = sym (after_all c.requires.earlier (omega arith))
-
-pub returns-then-end-low : goal.returns-then-end-low
-returns-then-end-low c = sym (before_all c.requires.earlier (omega arith))
-
-pub loop-f-init : goal.loop-f-init
-loop-f-init c = passed_start _ _
-
-pub overflow_add-other : goal.overflow_add-other
-overflow_add-other c = omega (arith, end_small {f = c.loop-f.f} c.requires.inside (omega arith))
-
-pub returns-then-start-other : goal.returns-then-start-other
-unfolding apart_from_earlier
-returns-then-start-other c = sym (passed_fails c.loop-f.invariant c.loop-f-test.true (apart_not _ _ _ (omega arith) (omega arith)))
-
-pub loop-f-preserved : goal.loop-f-preserved
-loop-f-preserved c = passed_turn c.loop-f.invariant c.loop-f-test.true (elim c.if-other-end.branch [ then-other-end+else-start-other w ↦ apart_after _ _ _ (omega arith) | else-other-end w ↦ apart_before _ _ _ (omega arith) ])
+pub returns-then-earlier-start : goal.returns-then-earlier-start
+returns-then-earlier-start c = elim c.then-earlier-start.branch [
+  | then-earlier-start-via-then-earlier-start w ↦ sym (after_all c.requires.earlier (rw c.start.ensures at w.if-earlier-start.true))
+  | then-earlier-start-via-else-earlier-start+then-end-earlier w ↦ sym (before_all c.requires.earlier (rw w.end.ensures at w.if-end-earlier.true))
+]
 
 pub returns : goal.returns
 unfolding apart_from_earlier
-returns c = sym (passed_end c.loop-f.invariant c.loop-f-test.false)
+returns c = rows_by_all (λ f. apart c.args.image.now f c.args.g) c.args.g _ _ c.all.ensures.ran refl (λ x b q k. search rules)

@@ -1,20 +1,8 @@
-use Rattle.image_instructions.specs.Cursor.{broken, ended}
-use Rattle.image_instructions.proofs.Cursor.{reading_start, reading_turn, reading_fails, reading_end}
-use Rattle.image_instructions.proofs.Readers.{identifier_none, identifier_out, identifier_in}
-use native.Mathlib.Omega.{arith}
+use Rattle.std.proofs.Common.{rules}
+use Rattle.image.specs.Body.{identifier}
+use Rattle.image_instructions.specs.Reads.{left}
+use Rattle.image_instructions.proofs.Readers.{counted_leaves}
 use Rattle.image_instructions.proofs.read.identifiers.Goals as goal
 
-pub loop-k-init : goal.loop-k-init
-loop-k-init c = reading_start _ _ _ _ _ (omega arith)
-
-pub returns-then-at-end : goal.returns-then-at-end
-returns-then-at-end c = broken (reading_fails c.loop-k.invariant (omega arith) (identifier_none _ _ _ _ (omega arith) (omega arith)))
-
-pub returns-then-img-at : goal.returns-then-img-at
-returns-then-img-at c = broken (reading_fails c.loop-k.invariant (omega arith) (identifier_out _ _ _ _ (omega arith) (omega arith) (omega arith)))
-
-pub loop-k-preserved : goal.loop-k-preserved
-loop-k-preserved c = reading_turn c.loop-k.invariant (omega arith) (identifier_in _ _ _ _ (omega arith) (omega arith) (omega arith))
-
 pub returns : goal.returns
-returns c = ended (reading_end c.loop-k.invariant (omega arith))
+returns c = rw (counted_leaves (identifier c.args.limits) c.args.words.now) (c.counted.ensures (λ ws. left (identifier c.args.limits ws)) (λ p o h. search rules))

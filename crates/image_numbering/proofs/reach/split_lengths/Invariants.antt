@@ -1,10 +1,10 @@
+use Prim.Native.Nat.{ℕ, ◌≤◌, ◌<◌, ◌/◌, ◌%◌}
+use mathlib.Core.Path.{◌≡◌}
+use lib.ListN.{length}
+use Rattle.image_numbering.specs.Numbering.{at}
 use Rattle.image_numbering.specs.Blocks.{length_of}
-use Rattle.image_numbering.specs.Numbering.{Filled}
-use Prim.Native.Nat.{◌-◌, ◌≤◌, ◌/◌, ◌%◌}
 use Rattle.image_numbering.proofs.reach.split_lengths.Given as goal
 
 abbrev pub invariant-loop-p : goal.invariant-loop-p
-invariant-loop-p l = (l.p ≤ l.rows) × Filled (λ q. length_of l.img q % 65536) l.initial.low l.low l.p × Filled (λ q. length_of l.img q / 65536) l.initial.high l.high l.p
-
-abbrev pub decreases-loop-p : goal.decreases-loop-p
-decreases-loop-p l = l.rows - l.p
+invariant-loop-p l =
+    (32768 ≤ length l.low) × (32768 ≤ length l.high) × ((q : ℕ) → q < l.p → at l.low q ≡ length_of l.image.words q % 65536) × ((q : ℕ) → q < l.p → at l.high q ≡ length_of l.image.words q / 65536)

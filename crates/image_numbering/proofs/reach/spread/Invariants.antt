@@ -3,6 +3,3 @@ use Rattle.image_numbering.proofs.reach.spread.Given as goal
 
 abbrev pub invariant-loop-p : goal.invariant-loop-p
 invariant-loop-p l = Spreading l.n l.initial.next l.next l.end l.p
-
-abbrev pub decreases-loop-p : goal.decreases-loop-p
-decreases-loop-p l = l.p

@@ -1,23 +1,13 @@
-use Rattle.image_shapes.proofs.Shape.{walked_start, walked_turn, walked_stop, walked_end, among_next, among_here, among_none}
+use Rattle.std.proofs.Common.{rules}
+use mathlib.Core.Path.{refl, ◌∙◌}
+use Rattle.std.proofs.lemmas.Iterator.{YieldsList-from_range}
+use Rattle.std.proofs.lemmas.Iterator.Search.{any_from_yields_List}
 use Rattle.names.specs.Names.{same}
-use mathlib.Core.Path.{sym, ap, ◌∙◌}
-use native.Mathlib.Omega.{arith}
+use Rattle.image_numbering.specs.Blocks.{name_of}
+use Rattle.image_shapes.proofs.Shape.{any_among}
 use Rattle.image_shapes.proofs.shapes.is_among.Goals as goal
 
-pub loop-k-init : goal.loop-k-init
-loop-k-init c = walked_start _ _ _ (omega arith)
-
-pub row_name-requires : goal.row_name-requires
-row_name-requires c = let pre = c.requires in (pre.0, omega arith)
-
-pub returns-then-same_bytes : goal.returns-then-same_bytes
-returns-then-same_bytes c =
-    sym
-    (walked_stop c.loop-k.invariant c.loop-k-test.true (among_here _ _ _ _ _ (sym (c.same_bytes.ensures ∙ ap (same c.args.name.now) c.row_name.ensures) ∙ c.if-same_bytes.true)))
-
-pub loop-k-preserved : goal.loop-k-preserved
-loop-k-preserved c =
-    walked_turn c.loop-k.invariant c.loop-k-test.true (among_next _ _ _ _ _ (sym (c.same_bytes.ensures ∙ ap (same c.args.name.now) c.row_name.ensures) ∙ c.if-same_bytes.false))
-
 pub returns : goal.returns
-returns c = sym (walked_end c.loop-k.invariant c.loop-k-test.false (among_none _ _ _ 0 _))
+returns c =
+    any_from_yields_List (λ k. same c.args.name.now (name_of c.args.image.now.words c.args.image.now.names k)) _ _ _ c.any.ensures.ran (YieldsList-from_range c.args.first c.args.end _ refl refl) (λ x b q k. search rules)
+    ∙ any_among _ _ _ _ _

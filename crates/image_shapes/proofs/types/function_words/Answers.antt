@@ -1,22 +1,16 @@
-use native.Mathlib.Omega.{arith}
 use mathlib.Core.Path.{sym, ◌∙◌}
-use Rattle.image_shapes.proofs.Sizes.{function_shape, function_return, function_short, function_long}
+use Rattle.image_shapes.specs.Sizes.{words_short}
+use Rattle.image_shapes.proofs.Sizes.{function_shape, function_return, function_size}
 use Rattle.image_shapes.proofs.types.function_words.Goals as goal
 
 pub returns-then-not-in_table_or_none : goal.returns-then-not-in_table_or_none
-returns-then-not-in_table_or_none c = λ k. sym (function_shape _ _ k _ _ (sym c.in_table_or_none.ensures ∙ c.if-not-in_table_or_none.true))
+returns-then-not-in_table_or_none c = λ k. function_shape _ _ k _ _ (sym c.in_table_or_none.ensures ∙ c.if-not-in_table_or_none.true)
 
-pub returns-then-b-n : goal.returns-then-b-n
-returns-then-b-n c = λ k. sym (function_return _ _ k _ _ (sym c.in_table_or_none.ensures ∙ c.if-not-in_table_or_none.false) c.if-b-n.true)
-
-pub overflow_cast-words-2 : goal.overflow_cast-words-2
-overflow_cast-words-2 c = omega (arith, c.shared_slice_known-3-1.given c.args.b)
-
-pub overflow_add-words : goal.overflow_add-words
-overflow_add-words c = omega (arith, c.shared_slice_known-3-1.given c.args.b)
-
-pub returns-then-words-gt-LONGEST : goal.returns-then-words-gt-LONGEST
-returns-then-words-gt-LONGEST c = λ k. function_long _ _ k _ _ (sym c.in_table_or_none.ensures ∙ c.if-not-in_table_or_none.false) (omega arith) (c.requires.earlier.words _ (omega arith)) (omega arith)
+pub returns-in_err-get : goal.returns-in_err-get
+returns-in_err-get c = λ k. c.from_residual.ensures ∙ function_return _ _ k _ _ (sym c.in_table_or_none.ensures ∙ c.if-not-in_table_or_none.false) c.in_err-get.ensures.lookup.3
 
 pub returns : goal.returns
-returns c = λ k. function_short _ _ k _ _ (sym c.in_table_or_none.ensures ∙ c.if-not-in_table_or_none.false) (omega arith) (c.requires.earlier.words _ (omega arith)) (omega arith)
+unfolding words_short
+returns c =
+    let found = c.in_ok-get.ensures.lookup.3 in
+    λ k. function_size _ _ k _ _ (sym c.in_table_or_none.ensures ∙ c.if-not-in_table_or_none.false) found.0 (c.from-words.ensures ∙ found.1 0 ∙ c.requires.words _ found.0) c.then_some.ensures

@@ -1,35 +1,26 @@
 use native.Mathlib.Omega.{arith}
-use mathlib.Core.Path.{sym}
-use Rattle.image.specs.declared.Table.TheVariants.{Lists}
+use mathlib.Core.Path.{◌∙◌}
 use Rattle.image_shapes.proofs.Sizes.{operands_start, operands_outside, operands_turn, operands_large, operands_long, operands_end}
 use Rattle.image_shapes.proofs.types.phi_words.Goals as goal
 
-pub returns-then-a-b : goal.returns-then-a-b
-returns-then-a-b c = sym (operands_outside _ _ _ _ (omega arith))
+pub returns-in_err-t-items : goal.returns-in_err-t-items
+returns-in_err-t-items c = c.from_residual.ensures ∙ operands_outside _ _ _ _ c.in_err-t-items.ensures
 
-pub loop-k-init : goal.loop-k-init
-loop-k-init c = operands_start _ _ _ _ (omega arith)
+pub loop-t-init : goal.loop-t-init
+loop-t-init c = operands_start _ _ _ _ c.in_ok-t-items.ensures.0 c.in_ok-t-items.ensures.1
 
-pub overflow_add-a-in-loop-k : goal.overflow_add-a-in-loop-k
-overflow_add-a-in-loop-k c = omega (arith, c.requires.roomy.laid.table Lists)
-
-pub cell-t-requires : goal.cell-t-requires
-cell-t-requires c = record { laid = c.requires.roomy.laid; row = omega arith; column = omega arith }
-
-pub returns-then-t-n : goal.returns-then-t-n
-returns-then-t-n c = operands_large c.requires.roomy.laid c.loop-k.invariant c.loop-k-test.true c.cell-t.ensures (omega arith)
-
-pub overflow_cast-words-in-loop-k : goal.overflow_cast-words-in-loop-k
-overflow_cast-words-in-loop-k c = omega (arith, c.shared_slice_known-in-loop-k-1.given c.cell-t.result)
-
-pub overflow_add-words : goal.overflow_add-words
-overflow_add-words c = omega (arith, c.shared_slice_known-in-loop-k-1.given c.cell-t.result)
+pub returns-in_err-get : goal.returns-in_err-get
+returns-in_err-get c = c.from_residual-in_err-get.ensures ∙ operands_large c.loop-t.invariant c.loop-t-test.true c.in_err-get.ensures.lookup.3
 
 pub returns-then-words-gt-LONGEST : goal.returns-then-words-gt-LONGEST
-returns-then-words-gt-LONGEST c = operands_long c.requires.roomy.laid c.loop-k.invariant c.loop-k-test.true c.cell-t.ensures (omega arith) (c.requires.earlier.words _ (omega arith)) (omega arith)
+returns-then-words-gt-LONGEST c =
+    let found = c.in_ok-get.ensures.lookup.3 in
+    operands_long c.loop-t.invariant c.loop-t-test.true found.0 (c.from.ensures ∙ found.1 0 ∙ c.requires.words _ found.0) c.if-words-gt-LONGEST.true
 
-pub loop-k-preserved : goal.loop-k-preserved
-loop-k-preserved c = operands_turn c.requires.roomy.laid c.loop-k.invariant c.loop-k-test.true c.cell-t.ensures (omega arith) (c.requires.earlier.words _ (omega arith)) (omega arith)
+pub loop-t-preserved : goal.loop-t-preserved
+loop-t-preserved c =
+    let found = c.in_ok-get.ensures.lookup.3 in
+    operands_turn c.loop-t.invariant c.loop-t-test.true found.0 (c.from.ensures ∙ found.1 0 ∙ c.requires.words _ found.0) (omega arith)
 
 pub returns : goal.returns
-returns c = operands_end c.requires.roomy.laid c.loop-k.invariant c.loop-k-test.false
+returns c = operands_end c.loop-t.invariant c.loop-t-test.false

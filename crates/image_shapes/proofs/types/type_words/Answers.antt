@@ -3,7 +3,7 @@ use Rattle.image_shapes.proofs.Sizes.{row_var, row_leaf, row_object, row_functio
 use Rattle.image_shapes.proofs.types.type_words.Goals as goal
 
 pub returns-in-0 : goal.returns-in-0
-returns-in-0 c = row_var _ _ c.cell-kind.ensures c.cell-a.ensures c.cell-b.ensures c.in-0.is c.count.ensures c.leaf_words.ensures
+returns-in-0 c = row_var _ _ c.cell-kind.ensures c.cell-a.ensures c.cell-b.ensures c.in-0.is c.in_table.ensures c.leaf_words.ensures
 
 pub returns-in-4 : goal.returns-in-4
 returns-in-4 c = row_object _ _ c.cell-kind.ensures c.cell-a.ensures c.cell-b.ensures c.in-4.is c.in_table_or_none.ensures c.leaf_words-in-4.ensures

@@ -1,7 +1,0 @@
-use Rattle.image.specs.Check.{inside}
-use mathlib.Core.Path.{refl}
-use Rattle.image_tables.proofs.inside.Goals as goal
-
-pub returns : goal.returns
-unfolding inside
-returns c = refl
