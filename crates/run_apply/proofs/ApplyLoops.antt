@@ -5,19 +5,22 @@ use mathlib.Core.List.{List, [], ◌++◌}
 use native.Mathlib.Numerals.{add-one}
 use native.Mathlib.Omega.{arith}
 use lib.ListN.{length}
+use Rattle.std.specs.Prelude.{Result, Ok, Err}
+use Rattle.image.specs.declared.refusal.Refusal.{Refusal}
 use Rattle.image.specs.Ty.{NONE}
 use Rattle.image.specs.Image.{word}
 use Rattle.run_definition.specs.Items.{concat_map_from}
 use Rattle.run_definition.specs.Visits.{Visit, phi_visit}
 use Rattle.run_definition.specs.Position.{words_at, items_at, phi_at, after_instruction, instructions_at, after_instructions, after_phi, phis_at, after_phis, after_block, blocks_at, after_blocks}
 use Rattle.run_definition.specs.Fitting.{IdentifierAt, IdentifiersAt, InstructionFits, InstructionOfFits, InstructionsFit, no_instruction, instruction_then, PhiFits, PhisFit, no_phi, phi_then, BlockFits, BlocksFit, no_block, block_then, PlaceFits}
-use Rattle.run_apply.specs.Applying.{Passing, AppliesNext, AppliesTo, ItemOfFits, place_visits, item_visits_at, items_visits_at, context_visits_at, phis_visits_at, instruction_visits_at, instructions_visits_at, block_visits_at, blocks_visits_at}
+use Rattle.unifier_nodes.specs.declared.state.Unifier.{Unifier}
+use Rattle.run_apply.specs.Applying.{Passing, Applies, AppliesTo, ItemOfFits, place_visits, item_visits_at, items_visits_at, context_visits_at, phis_visits_at, instruction_visits_at, instructions_visits_at, block_visits_at, blocks_visits_at}
 use Rattle.run_layout.specs.declared.Layout.{Layout}
-use Rattle.run_apply.specs.declared.Pass.{Pass}
-use Rattle.run_apply.proofs.ApplyLaws.{short_image, stays, next_then, next_none, next_as, next_length, passing_next}
+use Rattle.run_apply.proofs.ApplyLaws.{short_image, applies_then, applies_none, applies_as, applies_refused, passing_next}
 
--- what a loop goes over: n parts from a position on, by what was shown of them, where they end and what they visit; k of them came before
-pub record Course (Where : Type 0) : Type 1 where
+-- what a loop goes over, in a function that answers such a value: n parts from a position on, by what was shown of them, where they end
+-- and what they visit; k of them came before
+pub record Course (Where A : Type 0) : Type 1 where
   pub Fits : (at n : ℕ) → Type 0
   pub One : (at : ℕ) → Type 0
   pub next : ℕ → ℕ
@@ -26,7 +29,7 @@ pub record Course (Where : Type 0) : Type 1 where
   pub all : Where → (k at n : ℕ) → List ℕ → List Visit
 
 -- it goes by one part and those after it
-pub record InTurn {Where : Type 0} (c : Course Where) : Type 0 where
+pub record InTurn {Where A : Type 0} (c : Course Where A) : Type 0 where
   pub first : (at n : ℕ) → c.Fits at (suc n) → c.One at
   pub later : (at n : ℕ) → c.Fits at (suc n) → c.Fits (c.next at) n
   pub after_none : (at : ℕ) → c.after at 0 ≡ at
@@ -35,41 +38,53 @@ pub record InTurn {Where : Type 0} (c : Course Where) : Type 0 where
   pub all_more : (x : Where) (k at n : ℕ) (bytes : List ℕ) → c.all x k at (suc n) bytes ≡ c.one x k at bytes ++ c.all x (suc k) (c.next at) n bytes
 
 -- k parts are done: what is left goes on from here
-pub record Left {Where : Type 0} (c : Course Where) (img : List ℕ) (lay : Layout) (from n : ℕ) (w₀ : List ℕ) (g₀ : Pass) (w : List ℕ) (g : Pass) (k at : ℕ) : Type 0 where
+pub record Left {Where A : Type 0} (c : Course Where A) (img : List ℕ) (lay : Layout) (from n : ℕ) (u₀ u : Unifier) (k at : ℕ) : Type 0 where
   pub counted : k ≤ n
-  pub len : length w ≡ length w₀
   pub fits : c.Fits at (n - k)
   pub lands : c.after at (n - k) ≡ c.after from n
-  pub ready : Passing img w lay g
-  pub on : (x : Where) (w'' : List ℕ) (r : Pass) → AppliesNext (c.all x k at (n - k)) img w w'' lay g r → AppliesNext (c.all x 0 from n) img w₀ w'' lay g₀ r
+  pub ready : Passing img lay u
+  pub on : (x : Where) (u' : Unifier) (r : Result A Refusal) → Applies (c.all x k at (n - k)) img lay u u' r → Applies (c.all x 0 from n) img lay u₀ u' r
 
-module _ {Where : Type 0} {c : Course Where} (t : InTurn c) {img : List ℕ} {lay : Layout} {from n : ℕ} {w₀ : List ℕ} {g₀ : Pass} where
+module _ {Where A : Type 0} {c : Course Where A} (t : InTurn c) {img : List ℕ} {lay : Layout} {from n : ℕ} {u₀ : Unifier} where
   -- before the first
-  pub left_none : {at : ℕ} → at ≡ from → c.Fits from n → Passing img w₀ lay g₀ → Left c img lay from n w₀ g₀ w₀ g₀ 0 at
+  pub left_none : {at : ℕ} → at ≡ from → c.Fits from n → Passing img lay u₀ → Left c img lay from n u₀ u₀ 0 at
   left_none {at} q f p =
       let e : n - 0 ≡ n = omega arith in
-      subst (Left c img lay from n w₀ g₀ w₀ g₀ 0) (sym q) (record { counted = omega arith; len = refl; fits = rw e f; lands = rw e; ready = p; on = λ x w'' r a. rw e at a })
+      subst (Left c img lay from n u₀ u₀ 0) (sym q) (record { counted = omega arith; fits = rw e f; lands = rw e; ready = p; on = λ x u' r a. rw e at a })
 
-  module _ {w : List ℕ} {g : Pass} {k at : ℕ} (l : Left c img lay from n w₀ g₀ w g k at) where
+  module _ {u : Unifier} {k at : ℕ} (l : Left c img lay from n u₀ u k at) where
     module _ (lt : k < n) where
       one_more : n - k ≡ suc (n - (k + 1))
       one_more = omega arith
+
+      -- the visits of the next part, and of those after it
+      visits_more : (x : Where) (bytes : List ℕ) → c.all x k at (n - k) bytes ≡ c.one x k at bytes ++ c.all x (k + 1) (c.next at) (n - (k + 1)) bytes
+      visits_more x bytes =
+          ap (λ (m : ℕ). c.all x k at m bytes) one_more
+          ∙ t.all_more x k at (n - (k + 1)) bytes
+          ∙ ap (λ (j : ℕ). c.one x k at bytes ++ c.all x j (c.next at) (n - (k + 1)) bytes) (sym (add-one k))
 
       -- the next part
       pub left_first : c.One at
       left_first = t.first at (n - (k + 1)) (rw one_more at l.fits)
 
+      -- a refusal at it
+      pub left_refused : {B : Type 0} {v : Unifier} {why : Refusal} (x : Where) → Applies {A = B} (c.one x k at) img lay u v (Err why)
+          → Applies {A = A} (c.all x 0 from n) img lay u₀ v (Err why)
+      left_refused {v = v} {why} x a =
+          l.on x v (Err why) (applies_as (Err why) (λ bytes budget p. visits_more x bytes) (applies_refused (c.all x (k + 1) (c.next at) (n - (k + 1))) a))
+
       -- and after it
-      pub left_more : {u : List ℕ} {h : Pass} {at' : ℕ} → at' ≡ c.next at → ((x : Where) → AppliesNext (c.one x k at) img w u lay g h) → Where → Left c img lay from n w₀ g₀ u h (k + 1) at'
-      left_more {u} {h} {at'} e a x₀ =
-          subst (Left c img lay from n w₀ g₀ u h (k + 1)) (sym e)
+      pub left_more : {B : Type 0} {v : Unifier} {at' : ℕ} {y : B} → at' ≡ c.next at → ((x : Where) → Applies (c.one x k at) img lay u v (Ok y)) → Where
+          → Left c img lay from n u₀ v (k + 1) at'
+      left_more {v = v} {at'} e a x₀ =
+          subst (Left c img lay from n u₀ v (k + 1)) (sym e)
           (record {
             counted = omega arith;
-            len = next_length (a x₀) ∙ l.len;
             fits = t.later at (n - (k + 1)) (rw one_more at l.fits);
             lands = sym (t.after_more at (n - (k + 1))) ∙ (rw one_more at l.lands);
             ready = passing_next l.ready (a x₀);
-            on = λ x w'' r b. l.on x w'' r (next_as (λ bytes budget p. ap (λ (m : ℕ). c.all x k at m bytes) one_more ∙ t.all_more x k at (n - (k + 1)) bytes ∙ ap (λ (j : ℕ). c.one x k at bytes ++ c.all x j (c.next at) (n - (k + 1)) bytes) (sym (add-one k))) (next_then (a x) b));
+            on = λ x u' r b. l.on x u' r (applies_as r (λ bytes budget p. visits_more x bytes) (applies_then r (a x) b));
           })
 
     module _ (ge : n ≤ k) where
@@ -77,14 +92,18 @@ module _ {Where : Type 0} {c : Course Where} (t : InTurn c) {img : List ℕ} {la
       none_left = omega arith
 
       -- after the last
-      pub left_done : {m : ℕ} (x : Where) → AppliesNext (c.all x 0 from n) img w₀ w lay g₀ (record { left = g.left; top = g.top; refused = g.refused; at = m })
-      left_done x = l.on x w _ (next_as (λ bytes budget p. ap (λ (m : ℕ). c.all x k at m bytes) none_left ∙ t.all_none x k at bytes) (next_none stays))
+      pub left_done : (y : A) (x : Where) → Applies (c.all x 0 from n) img lay u₀ u (Ok y)
+      left_done y x =
+          l.on x u (Ok y) (applies_as (Ok y) (λ bytes budget p. ap (λ (m : ℕ). c.all x k at m bytes) none_left ∙ t.all_none x k at bytes) (applies_none y))
 
-      -- reading goes on there
-      pub left_to : (x : Where) → AppliesTo (c.after from n) (c.all x 0 from n) img w₀ w lay g₀ (record { left = g.left; top = g.top; refused = g.refused; at = at })
-      left_to x = record { applied = left_done x; lands = sym (t.after_none at) ∙ (rw none_left at l.lands) }
+-- reading goes on there
+pub left_to : {Where : Type 0} {c : Course Where ℕ} (t : InTurn c) {img : List ℕ} {lay : Layout} {from n : ℕ} {u₀ u : Unifier} {k at : ℕ}
+    (l : Left c img lay from n u₀ u k at) → n ≤ k → (x : Where) → AppliesTo (c.after from n) (c.all x 0 from n) img lay u₀ u (Ok at)
+left_to t {n = n} {k = k} {at} l ge x =
+    let e : n - k ≡ 0 = omega arith in
+    record { applied = left_done t l ge at x; lands = sym (t.after_none at) ∙ (rw e at l.lands) }
 
-module _ {img w : List ℕ} {lay : Layout} {g : Pass} {at : ℕ} (p : Passing img w lay g) where
+module _ {img : List ℕ} {lay : Layout} {u : Unifier} {at : ℕ} (p : Passing img lay u) where
   -- an instruction lies in the image
   pub instruction_lies : InstructionFits img at → (at + 4 + 3 * word img (at + 3) ≤ length img) × (length img ≤ 65536)
   unfolding after_instruction
@@ -100,7 +119,7 @@ module _ {img w : List ℕ} {lay : Layout} {g : Pass} {at : ℕ} (p : Passing im
 
 module _ (img : List ℕ) where
   -- the items of the instruction at a position
-  abbrev pub items_course : ℕ → Course (ℕ × ℕ × ℕ)
+  abbrev pub items_course : ℕ → Course (ℕ × ℕ × ℕ) (Unit {0})
   items_course at =
       record {
         Fits = λ place n. (k : ℕ) → k < n → ItemOfFits img at (place + 3 * k);
@@ -124,7 +143,7 @@ module _ (img : List ℕ) where
       }
 
   -- the identifiers of a context
-  abbrev pub context_course : Course (ℕ × ℕ × ℕ)
+  abbrev pub context_course : Course (ℕ × ℕ × ℕ) (Unit {0})
   context_course =
       record {
         Fits = IdentifiersAt img;
@@ -152,7 +171,7 @@ module _ (img : List ℕ) where
   phi_first at n (phi_then {m = m} e p r) = let q : m ≡ n = omega arith in (p, subst (PhisFit img (after_phi img at)) q r)
 
   -- phis
-  abbrev pub phis_course : Course (ℕ × ℕ)
+  abbrev pub phis_course : Course (ℕ × ℕ) ℕ
   phis_course =
       record {
         Fits = PhisFit img;
@@ -180,7 +199,7 @@ module _ (img : List ℕ) where
   instruction_first f at n (instruction_then {m = m} e p r) = let q : m ≡ n = omega arith in (p, subst (InstructionsFit img f (after_instruction img at)) q r)
 
   -- the instructions of function f
-  abbrev pub instructions_course : ℕ → Course ℕ
+  abbrev pub instructions_course : ℕ → Course ℕ ℕ
   instructions_course f =
       record {
         Fits = InstructionsFit img f;
@@ -208,7 +227,7 @@ module _ (img : List ℕ) where
   block_first f at n (block_then {m = m} e p r) = let q : m ≡ n = omega arith in (p, subst (BlocksFit img f (after_block img at)) q r)
 
   -- the blocks of function f
-  abbrev pub blocks_course : ℕ → Course (Unit {0})
+  abbrev pub blocks_course : ℕ → Course (Unit {0}) (Unit {0})
   blocks_course f =
       record {
         Fits = BlocksFit img f;

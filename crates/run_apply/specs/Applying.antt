@@ -1,14 +1,15 @@
--- What the parts of `apply_function` ask of the work words, and what they promise. Assumes nothing.
-use Rattle.std.specs.Prelude.{ℕ, ◌+◌, ◌*◌, ◌≤◌, ◌<◌, ◌≡◌, List, [], ◌∷◌, map, length}
+-- What the parts of `apply_function` ask of the unifier, and what they promise. Assumes nothing.
+use Rattle.std.specs.Prelude.{ℕ, ◌+◌, ◌*◌, ◌≤◌, ◌<◌, ◌≡◌, List, [], ◌∷◌, map, length, Result, IfOk}
 use Rattle.std.proofs.Math.Option.{some}
 use Rattle.image.specs.declared.Table.TheVariants.{Slots}
+use Rattle.image.specs.declared.refusal.Refusal.{Refusal}
 use Rattle.image.specs.Ty.{NONE, Ty}
 use Rattle.image.specs.Image.{word, count}
 use Rattle.image.specs.Program.{program, function_of, to_depth}
 use Rattle.unifier_definition.specs.Log.{Log}
-use Rattle.unifier_definition.specs.Outcome.{Outcome, done}
-use Rattle.unifier_nodes.specs.Work.{at, Good, Room}
-use Rattle.unifier_nodes.specs.Walks.{Refuses}
+use Rattle.unifier_nodes.specs.Work.{at}
+use Rattle.unifier_nodes.specs.States.{GoodIn, RoomIn, ComesTo}
+use Rattle.unifier_nodes.specs.declared.state.Unifier.{Unifier}
 use Rattle.run_definition.specs.Items.{concat_map_from}
 use Rattle.run_definition.specs.Visits.{Visit, visit, item_visits, nested_visits, instruction_visits, phi_visit, block_visits, function_visits, resolve_identifiers}
 use Rattle.run_definition.specs.Position.{words_at, item_at, items_at, form_at, instruction_at, instructions_at, phis_at, block_at, blocks_at}
@@ -16,76 +17,64 @@ use Rattle.run_definition.specs.Fitting.{Passed, ItemFits}
 use Rattle.run_layout.specs.Layout.{Prepared}
 use Rattle.run_tables.specs.Standing.{SlotsStand}
 use Rattle.run_layout.specs.declared.Layout.{Layout}
-use Rattle.run_apply.specs.declared.Pass.{Pass}
 
--- what every part asks: an image that passed the check, what was laid out, room, and words that stand for a log and the slots' types
-pub record Applying (img w : List ℕ) (lay : Layout) (g : Pass) : Type 0 where
+-- the slots' types stand in the unifier's words
+abbrev pub SlotsIn : Layout → Unifier → List Ty → Type 0
+SlotsIn lay u types = SlotsStand u.words.now lay u.top types
+
+-- what `apply` asks: an image that passed the check, what was laid out, room, and words that stand for a log and the slots' types
+pub record Applying (img : List ℕ) (lay : Layout) (u : Unifier) : Type 0 where
   pub bytes : List ℕ
   pub budget : ℕ
   pub passed : Passed img bytes budget
-  pub prepared : Prepared img w budget lay g.top
-  pub fewer : g.left ≤ budget
-  pub room : Room w g.top g.left lay.stack
-  pub running : g.refused ≡ 0
+  pub prepared : Prepared img u.words.now budget lay u.top
+  pub lo : u.lo ≡ lay.lo
+  pub stack : u.stack ≡ lay.stack
+  pub fewer : u.left ≤ budget
+  pub room : RoomIn u
   pub σ : Log
   pub types : List Ty
-  pub good : Good w lay.lo g.top σ
-  pub stand : SlotsStand w lay g.top types
+  pub good : GoodIn u σ
+  pub stand : SlotsIn lay u types
 
--- what every part keeps: bindings and nodes; what it takes is paid for by steps
-pub record PassKeeps (w w' : List ℕ) (g r : Pass) : Type 0 where
-  pub len : length w' ≡ length w
-  pub grows : g.top ≤ r.top
-  pub below : (k : ℕ) → k < g.top → at w' k ≡ at w k
-  pub fewer : r.left ≤ g.left
-  pub spent : r.top + 4 * r.left ≤ g.top + 4 * g.left
+-- what every part keeps, in a refusal too: the reference to the words, where nodes and operands in hand start, bindings and nodes; what it
+-- takes is paid for by steps
+pub record PassKeeps (u u' : Unifier) : Type 0 where
+  pub same : u'.words.ghost_name ≡ u.words.ghost_name
+  pub lo : u'.lo ≡ u.lo
+  pub stack : u'.stack ≡ u.stack
+  pub len : length u'.words.now ≡ length u.words.now
+  pub grows : u.top ≤ u'.top
+  pub below : (k : ℕ) → k < u.top → at u'.words.now k ≡ at u.words.now k
+  pub fewer : u'.left ≤ u.left
+  pub spent : u'.top + 4 * u'.left ≤ u.top + 4 * u.left
 
--- what an answer means, where the visits come to this
-pub record ResolvedTo (w' : List ℕ) (lay : Layout) (r : Pass) (out : Outcome (List Ty)) : Type 0 where
-  pub finished : r.refused ≡ 0 → (types : List Ty) × (out ≡ done types r.left) × SlotsStand w' lay r.top types
-  pub ended : (r.refused ≡ 0 → ⊥) → Refuses w' lay.lo r.top r.left r.refused out
+-- the promise of a part that makes these visits, by the name bytes of an image that passed the check: it comes to the types that they
+-- come to, or to their refusal
+pub record Applies {A : Type 0} (vs : List ℕ → List Visit) (img : List ℕ) (lay : Layout) (u u' : Unifier) (r : Result A Refusal) : Type 0 where
+  pub keeps : PassKeeps u u'
+  pub means : (bytes : List ℕ) (budget : ℕ) → Passed img bytes budget → (σ : Log) (types : List Ty) → GoodIn u σ → SlotsIn lay u types
+      → ComesTo (λ v x. SlotsIn lay v) u' r (resolve_identifiers σ u.left types (vs bytes))
 
--- the promise of a part that makes these visits, by the name bytes of an image that passed the check
-pub record Applies (vs : List ℕ → List Visit) (img w w' : List ℕ) (lay : Layout) (g r : Pass) : Type 0 where
-  pub keeps : PassKeeps w w' g r
-  pub means : (bytes : List ℕ) (budget : ℕ) → Passed img bytes budget → (σ : Log) (types : List Ty) → Good w lay.lo g.top σ → SlotsStand w lay g.top types
-      → ResolvedTo w' lay r (resolve_identifiers σ g.left types (vs bytes))
+-- .. that answers a position of the image, where reading goes on
+pub record AppliesTo (next : ℕ) (vs : List ℕ → List Visit) (img : List ℕ) (lay : Layout) (u u' : Unifier) (r : Result ℕ Refusal) : Type 0 where
+  pub applied : Applies vs img lay u u' r
+  pub lands : IfOk r (λ at. at ≡ next)
 
--- The private parts are chained: what was refused stays refused, and the image is read on.
--- what is known while nothing is refused: room, and words that stand for a log and the slots' types
-pub record Resolving (w : List ℕ) (lay : Layout) (g : Pass) : Type 0 where
-  pub apart : lay.stack + g.left ≤ lay.entries
-  pub held : lay.entries + lay.slots ≤ length w
-  pub room : Room w g.top g.left lay.stack
-  pub σ : Log
-  pub types : List Ty
-  pub good : Good w lay.lo g.top σ
-  pub stand : SlotsStand w lay g.top types
-
--- what a private part asks
-pub record Passing (img w : List ℕ) (lay : Layout) (g : Pass) : Type 0 where
+-- what a private part asks: room, and words that stand for a log and the slots' types, which lie past what the steps left can make
+pub record Passing (img : List ℕ) (lay : Layout) (u : Unifier) : Type 0 where
   pub bytes : List ℕ
   pub budget : ℕ
   pub passed : Passed img bytes budget
   pub slots : lay.slots ≡ count Slots img
-  pub ready : g.refused ≡ 0 → Resolving w lay g
-
--- nothing happened, but that reading may go on elsewhere
-pub record Stays (w w' : List ℕ) (g r : Pass) : Type 0 where
-  pub left : r.left ≡ g.left
-  pub top : r.top ≡ g.top
-  pub refused : r.refused ≡ g.refused
-  pub words : w' ≡ w
-
--- the promise of a private part
-pub record AppliesNext (vs : List ℕ → List Visit) (img w w' : List ℕ) (lay : Layout) (g r : Pass) : Type 0 where
-  pub kept : (g.refused ≡ 0 → ⊥) → Stays w w' g r
-  pub applies : g.refused ≡ 0 → Applies vs img w w' lay g r
-
--- .. that stops at a position of the image
-pub record AppliesTo (next : ℕ) (vs : List ℕ → List Visit) (img w w' : List ℕ) (lay : Layout) (g r : Pass) : Type 0 where
-  pub applied : AppliesNext vs img w w' lay g r
-  pub lands : r.at ≡ next
+  pub lo : u.lo ≡ lay.lo
+  pub apart : u.stack + u.left ≤ lay.entries
+  pub held : lay.entries + lay.slots ≤ length u.words.now
+  pub room : RoomIn u
+  pub σ : Log
+  pub types : List Ty
+  pub good : GoodIn u σ
+  pub stand : SlotsIn lay u types
 
 -- an item of the instruction at a position
 pub record ItemOfFits (img : List ℕ) (at place : ℕ) : Type 0 where

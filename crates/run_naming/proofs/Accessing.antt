@@ -7,6 +7,9 @@ use native.Mathlib.Omega.{arith}
 use lib.ListN.{length}
 use lib.Dec.{eqb}
 use borrow.Author.Tests.{ltb-true}
+use Rattle.std.proofs.Common.{Result, MutBor}
+use Rattle.image.specs.Refusals.{refused as number_of_outcome}
+use Rattle.image.specs.declared.refusal.Refusal.{Refusal}
 use Rattle.image.specs.declared.Table.TheVariants.{Names, Identifiers, Slots, Types, Lists}
 use Rattle.image.specs.Ty.{NONE, Ty, var, func, function_kind}
 use Rattle.image.specs.Image.{word, count, cell, limits}
@@ -19,7 +22,8 @@ use Rattle.unifier_definition.specs.Property.{PropertyNameKind, string, computed
 use Rattle.unifier_definition.specs.Unify.{Equation, ◌≐◌, ◌≐_property◌, unify_equation}
 use Rattle.unifier_definition.specs.Counts.{counted, access_lookup, lookup_made}
 use Rattle.unifier_nodes.specs.Work.{Rep, rep_var, Good}
-use Rattle.unifier_nodes.specs.Promises.{Keeps}
+use Rattle.unifier_nodes.specs.States.{Keeps}
+use Rattle.unifier_nodes.specs.declared.state.Unifier.{Unifier}
 use Rattle.unifier_properties.specs.Lookup.{registry_of, key_name, KeyInside}
 use Rattle.unifier_counts.specs.Given.{given_by, counts_of, lookups, counted_by}
 use Rattle.unifier_counts.specs.declared.Counts.{Counts}
@@ -28,7 +32,6 @@ use Rattle.unifier.specs.Accesses.{unify_access, AccessAsked, Accesses}
 use Rattle.unifier.specs.declared.access.Accessed.{Accessed}
 use Rattle.unifier_properties.specs.declared.Key.{Key}
 use Rattle.unifier_properties.specs.declared.Key.TheVariants.{Computed}
-use Rattle.unifier_nodes.specs.declared.state.State.{State}
 use Rattle.unifier_definition.proofs.Outcomes.{by_bool}
 use Rattle.unifier_definition.proofs.CountLaws.{total, count_one, counted_falls}
 use Rattle.unifier_nodes.proofs.Frames.{Same}
@@ -50,7 +53,7 @@ use Rattle.run_definition.proofs.PositionLaws.{item_id_at, slot_is, name_is}
 use Rattle.run_definition.proofs.PositionsBody.{checked}
 use Rattle.run_equations.proofs.InstructionEquations.{get_type_at}
 use Rattle.run_walk.proofs.Composing.{LayoutAt, layout_at, refuses_as, spent_walk, with_next, logged_same, generates_of, generates_same, generates_made, generates_spent, object_rep}
-use Rattle.run_walk.proofs.Equating.{starts, walk_after, one_equation, log_beyond}
+use Rattle.run_walk.proofs.Equating.{starts, walk_after, one_equation, log_beyond, by_number}
 
 -- the part of these equations
 abbrev pub Does : (NamesLog → List Equation) → (img bytes w w' : List ℕ) (lay : Layout) (stretch : ℕ) (g r : Walk) → Type 0
@@ -90,9 +93,10 @@ pub countable : {img w : List ℕ} {lay : Layout} {g : Walk} → Solving img w l
 countable s = omega (arith, s.counted, s.few)
 
 -- what the unifier keeps
-unified_keeps : {img w w' : List ℕ} {lay : Layout} {g : Walk} {st : State} {counts : Counts} → Solving img w lay g → Keeps w w' lay.lo (starts g g.top lay.stack) st
-    → (st.refused ≡ 0 → 2 * lookups counts + st.left ≤ 2 * lookups g.counts + g.left) → WalkKeeps w w' lay g (with_counts (walk_after g st) counts)
-unified_keeps s k counted =
+unified_keeps : {img : List ℕ} {words : MutBor (List ℕ)} {lay : Layout} {g : Walk} {u : Unifier} {counts : Counts} (r : Result (Unit {0}) Refusal) → Solving img words.now lay g
+    → Keeps lay.lo (starts words lay g g.top) u → (number_of_outcome r ≡ 0 → 2 * lookups counts + u.left ≤ 2 * lookups g.counts + g.left)
+    → WalkKeeps words.now u.words.now lay g (with_counts (walk_after g u r) counts)
+unified_keeps r s k counted =
     let (l, n) = log_beyond s in
     let f = k.frame in
     let p = k.paid in
@@ -116,91 +120,92 @@ module _ {img bytes w : List ℕ} {lay : Layout} {stretch : ℕ} {g : Walk} wher
       let l = entries_inside a.solving in
       record { inside = (registry_inside img bytes a.budget (checked a.passed)).names; end = omega arith; names = a.names; logged = a.logged }
 
-  -- `property`
-  module _ {slot id : ℕ} {key : Key} (a : PropertyAsked img bytes w lay stretch g slot id key) {obj : ℕ} (d : obj ≡ cell Identifiers img id 0) where
-    slot_rep : Rep w lay.lo g.top slot (var slot)
-    slot_rep = rep_var a.slot_inside refl
-
-    object_rep_of : Rep w lay.lo g.top obj (var obj)
-    object_rep_of = let i = a.ready.solving.slot_inside id a.id_inside in rep_var {n = obj} (omega arith) refl
-
-    -- what `unify_property` asks
-    pub access_asked : {use_ref ref_value : ℕ} → use_ref ≡ lay.own + 6 + 3 * 1 → ref_value ≡ lay.own + 6 + 3 * 7
-        → AccessAsked img bytes w (record { lo = lay.lo; types = lay.lo; use_ref = use_ref; ref_value = ref_value }) (starts g g.top lay.stack) slot obj key
-    access_asked u v =
-        let s = a.ready.solving in
-        record {
-          registry = registry_inside img bytes a.ready.budget (checked a.ready.passed);
-          key_inside = a.key_inside;
-          room = s.room;
-          known = record { σ = s.σ; t = var slot; u = var obj; good = s.good; left = slot_rep; right = object_rep_of };
-          types = s.prepared.types;
-          refs = record { use_ref = rw u (object_rep s 1 (omega arith)); ref_value = rw v (object_rep s 7 (omega arith)) };
-        }
-
-    -- the equation
-    abbrev equation : NamesLog → Equation
-    equation ns = var slot ≐_property access (program img bytes) ns id (key_name img bytes key)
-
-    module _ {b : Bool} {w' : List ℕ} {x : Accessed} (t : TellsRef img bytes w stretch g.log id key b) (h : Accesses img bytes w w' lay.lo (starts g g.top lay.stack) slot obj key b x) where
-      module _ (ns : NamesLog) (logged : Logged img bytes w stretch g.log ns) where
-        object_is : (access (program img bytes) ns id (key_name img bytes key)).object_type ≡ var obj
-        unfolding access get_type
-        object_is = ap var (slot_is img bytes id a.id_inside ∙ sym d)
-
-        -- what `unify` makes of it
-        comes : (σ : Log) → unify_equation (registry_of img bytes) σ g.left (equation ns) ≡ unify_access b (registry_of img bytes) (key_name img bytes key) σ g.left (var slot) (var obj)
-        unfolding unify_equation access
-        comes σ = property_access (registry_of img bytes) σ g.left (var slot) (access (program img bytes) ns id (key_name img bytes key)) object_is (sym (t.is ns logged))
-
-        -- the lookup that it makes
-        looks_up : (σ : Log) → lookup_made (registry_of img bytes) σ g.left (equation ns) ≡ access_lookup b (registry_of img bytes) (key_name img bytes key) σ g.left (var obj)
-        unfolding lookup_made access
-        looks_up σ = rw (← t.is ns logged, object_is)
-
-      -- what gave the property its type is counted
-      counts_one : (σ : Log) (ns : NamesLog) → Good w lay.lo g.top σ → Logged img bytes w stretch g.log ns
-          → counts_of (counted_by g.counts x.given) ≡ counted (counts_of g.counts) (lookup_made (registry_of img bytes) σ g.left (equation ns))
-      counts_one σ ns good logged =
-          ap (λ (v : GivenBy). counts_of (counted_by g.counts v)) (h.given σ (var obj) good object_rep_of ∙ ap given_by (sym (looks_up ns logged σ)))
-          ∙ counted_given g.counts (lookup_made (registry_of img bytes) σ g.left (equation ns))
-
-      -- its steps pay for the lookup
-      counted_pays : x.state.refused ≡ 0 → 2 * lookups (counted_by g.counts x.given) + x.state.left ≤ 2 * lookups g.counts + g.left
-      unfolding counts_of
-      counted_pays z =
-          let s = a.ready.solving in
-          let ns = a.ready.names in
-          let l = a.ready.logged in
-          let y = (h.binds.means s.σ (var slot) (var obj) s.good slot_rep object_rep_of).finished z in
-          omega (arith, ap total (counts_one s.σ ns s.good l), counted_falls (registry_of img bytes) s.σ g.left (counts_of g.counts) (equation ns) (comes ns l s.σ ∙ y.1))
-
-      -- what it comes to
-      pub property_generates : {r : Walk} {counts : Counts} → r ≡ walk_after g x.state → counts ≡ counted_by g.counts x.given
-          → Does (λ ns. equation ns ∷ []) img bytes w w' lay stretch g (with_counts r counts)
-      unfolding only
-      property_generates q c =
-          let keeps = unified_keeps a.ready.solving h.binds.keeps counted_pays in
-          rw (q, c) (record {
-            keeps = keeps;
-            means = λ σ ns good logged.
-                let o = a.ready.opened in
-                let same : Same w w' stretch g.log = λ k l b. keeps.names k (omega arith) b in
-                let y = h.binds.means σ (var slot) (var obj) good slot_rep object_rep_of in
-                let e = one_equation (registry_of img bytes) σ g.left (equation ns) ∙ comes ns logged σ in
-                record {
-                  finished = λ z. let f = y.finished z in (f.0, e ∙ f.1, f.2, logged_same same logged, refl);
-                  counts = λ z. counts_one σ ns good logged ∙ sym (count_one (registry_of img bytes) σ g.left (counts_of g.counts) (equation ns));
-                  ended = λ z. refuses_as e (y.ended z);
-                };
-          })
-
   -- what `property` asks, of a slot of the image
   pub image_asked : {slot i id : ℕ} {key : Key} → Ready img bytes w lay stretch g → slot ≡ cell Identifiers img i 0 → i < count Identifiers img → id < count Identifiers img → KeyInside img key
       → PropertyAsked img bytes w lay stretch g slot id key
   image_asked {i = i} a e l m k =
       let s = a.solving.slot_inside i l in
       record { ready = a; slot_inside = omega arith; id_inside = m; key_inside = k }
+
+-- `property`
+module _ (words : MutBor (List ℕ)) {img bytes : List ℕ} {lay : Layout} {stretch : ℕ} {g : Walk} {slot id : ℕ} {key : Key}
+    (a : PropertyAsked img bytes words.now lay stretch g slot id key) {obj : ℕ} (d : obj ≡ cell Identifiers img id 0) where
+  slot_rep : Rep words.now lay.lo g.top slot (var slot)
+  slot_rep = rep_var a.slot_inside refl
+
+  object_rep_of : Rep words.now lay.lo g.top obj (var obj)
+  object_rep_of = let i = a.ready.solving.slot_inside id a.id_inside in rep_var {n = obj} (omega arith) refl
+
+  -- what `unify_property` asks
+  pub access_asked : {use_ref ref_value : ℕ} → use_ref ≡ lay.own + 6 + 3 * 1 → ref_value ≡ lay.own + 6 + 3 * 7
+      → AccessAsked img bytes (starts words lay g g.top) (record { types = lay.lo; use_ref = use_ref; ref_value = ref_value }) slot obj key
+  access_asked u v =
+      let s = a.ready.solving in
+      record {
+        registry = registry_inside img bytes a.ready.budget (checked a.ready.passed);
+        key_inside = a.key_inside;
+        known = record { room = s.room; σ = s.σ; t = var slot; v = var obj; good = s.good; left = slot_rep; right = object_rep_of };
+        types = s.prepared.types;
+        refs = record { use_ref = rw u (object_rep s 1 (omega arith)); ref_value = rw v (object_rep s 7 (omega arith)) };
+      }
+
+  -- the equation
+  abbrev equation : NamesLog → Equation
+  equation ns = var slot ≐_property access (program img bytes) ns id (key_name img bytes key)
+
+  module _ {b : Bool} {u : Unifier} {x : Accessed} (t : TellsRef img bytes words.now stretch g.log id key b)
+      (h : Accesses img bytes (starts words lay g g.top) slot obj key b u x) where
+    module _ (ns : NamesLog) (logged : Logged img bytes words.now stretch g.log ns) where
+      object_is : (access (program img bytes) ns id (key_name img bytes key)).object_type ≡ var obj
+      unfolding access get_type
+      object_is = ap var (slot_is img bytes id a.id_inside ∙ sym d)
+
+      -- what `unify` makes of it
+      comes : (σ : Log) → unify_equation (registry_of img bytes) σ g.left (equation ns) ≡ unify_access b (registry_of img bytes) (key_name img bytes key) σ g.left (var slot) (var obj)
+      unfolding unify_equation access
+      comes σ = property_access (registry_of img bytes) σ g.left (var slot) (access (program img bytes) ns id (key_name img bytes key)) object_is (sym (t.is ns logged))
+
+      -- the lookup that it makes
+      looks_up : (σ : Log) → lookup_made (registry_of img bytes) σ g.left (equation ns) ≡ access_lookup b (registry_of img bytes) (key_name img bytes key) σ g.left (var obj)
+      unfolding lookup_made access
+      looks_up σ = rw (← t.is ns logged, object_is)
+
+    -- what gave the property its type is counted
+    counts_one : (σ : Log) (ns : NamesLog) → Good words.now lay.lo g.top σ → Logged img bytes words.now stretch g.log ns
+        → counts_of (counted_by g.counts x.given) ≡ counted (counts_of g.counts) (lookup_made (registry_of img bytes) σ g.left (equation ns))
+    counts_one σ ns good logged =
+        ap (λ (v : GivenBy). counts_of (counted_by g.counts v)) (h.given σ (var obj) good object_rep_of ∙ ap given_by (sym (looks_up ns logged σ)))
+        ∙ counted_given g.counts (lookup_made (registry_of img bytes) σ g.left (equation ns))
+
+    -- its steps pay for the lookup
+    counted_pays : number_of_outcome x.outcome ≡ 0 → 2 * lookups (counted_by g.counts x.given) + u.left ≤ 2 * lookups g.counts + g.left
+    unfolding counts_of
+    counted_pays z =
+        let s = a.ready.solving in
+        let ns = a.ready.names in
+        let l = a.ready.logged in
+        let y = (by_number u x.outcome h.binds.keeps.lo (h.binds.means s.σ (var slot, var obj) s.good (slot_rep, object_rep_of))).0 z in
+        omega (arith, ap total (counts_one s.σ ns s.good l), counted_falls (registry_of img bytes) s.σ g.left (counts_of g.counts) (equation ns) (comes ns l s.σ ∙ y.1))
+
+    -- what it comes to
+    pub property_generates : {r : Walk} {w' : List ℕ} {counts : Counts} → w' ≡ u.words.now → r ≡ walk_after g u x.outcome → counts ≡ counted_by g.counts x.given
+        → Does (λ ns. equation ns ∷ []) img bytes words.now w' lay stretch g (with_counts r counts)
+    unfolding only
+    property_generates v q c =
+        let keeps = unified_keeps x.outcome a.ready.solving h.binds.keeps counted_pays in
+        rw (v, q, c) (record {
+          keeps = keeps;
+          means = λ σ ns good logged.
+              let o = a.ready.opened in
+              let same : Same words.now u.words.now stretch g.log = λ k l b. keeps.names k (omega arith) b in
+              let (finished, ended) = by_number u x.outcome h.binds.keeps.lo (h.binds.means σ (var slot, var obj) good (slot_rep, object_rep_of)) in
+              let e = one_equation (registry_of img bytes) σ g.left (equation ns) ∙ comes ns logged σ in
+              record {
+                finished = λ z. let f = finished z in (f.0, e ∙ f.1, f.2, logged_same same logged, refl);
+                counts = λ z. counts_one σ ns good logged ∙ sym (count_one (registry_of img bytes) σ g.left (counts_of g.counts) (equation ns));
+                ended = λ z. refuses_as e (ended z);
+              };
+        })
 
 -- an access by the same parts
 pub access_same : (p : Program) (ns : NamesLog) (k : ℕ) {t t' : Ty} {i i' : ℕ} {n n' : PropertyNameKind} → t ≡ t' → i ≡ i' → n ≡ n'

@@ -10,9 +10,9 @@ use lib.Dec.{ltb}
 use borrow.Author.Tests.{eq-eqb, ne_eqb, ltb-true}
 use denote.Enum.Declared.{tag_of}
 use types.Run.{OneOf, miss}
+use Rattle.std.proofs.lemmas.Slice.Eq.{bytes_eq-Decides}
 use Rattle.names.specs.Names.{current_bytes, same, starts_with_set, is_ref_like_name}
 use Rattle.names.specs.Digits.{decimal, digits}
-use Rattle.names.proofs.Same.{same_eq}
 use Rattle.image.specs.declared.Table.TheVariants.{Names, Identifiers}
 use Rattle.image.specs.Ty.{NONE}
 use Rattle.image.specs.Image.{word, count, cell, treats_refs, treats_setters, name_at}
@@ -145,7 +145,7 @@ other_key : (img bytes object : List ℕ) (key : Key) → OneOf (1 ∷ 2 ∷ 3 �
 unfolding is_ref_like key_name is_ref_like_name
 other_key img bytes object (String n) k = absurd (miss (1 ∷ 2 ∷ 3 ∷ []) 0 tt k)
 other_key img bytes object (Position j) k =
-    let e : same (digits j) current_bytes ≡ false = by_bool (same (digits j) current_bytes) (λ t. absurd (digits_other j (same_eq (digits j) current_bytes t))) (λ t. t) in
+    let e : same (digits j) current_bytes ≡ false = by_bool (same (digits j) current_bytes) (λ t. absurd (digits_other j ((bytes_eq-Decides (digits j) current_bytes).0 t))) (λ t. t) in
     rw e
 other_key img bytes object Number k = refl
 other_key img bytes object Computed k = refl

@@ -21,7 +21,7 @@ use run_layout::Layout;
 use run_walk::{Walk, equal, object_of, slot_at, spent, var_at, walked};
 use unifier::access::{Places, unify_property};
 use unifier_counts::counted;
-use unifier_nodes::state::State;
+use unifier_nodes::state::Unifier;
 use unifier_properties::Key;
 
 // The newest name that is logged for an identifier, empty if there is none.
@@ -103,36 +103,32 @@ fn property(
 {
     let ref_like = is_ref_access(img, bytes, w, stretch, g.log, id, key);
     let object = image::slot_of(img, id);
-    let left = g.left;
-    let top = g.top;
-    let lo = lay.lo;
-    let stack = lay.stack;
     let use_ref = object_of(lay, shapes::BUILT_IN_USE_REF_ID);
     let ref_value = object_of(lay, shapes::BUILT_IN_REF_VALUE_ID);
+    let places = Places {
+        types: lay.lo,
+        use_ref,
+        ref_value,
+    };
+    let mut unifier = Unifier {
+        words: &mut *w,
+        lo: lay.lo,
+        left: g.left,
+        top: g.top,
+        stack: lay.stack,
+    };
     let accessed = unify_property(
         img,
         bytes,
-        w,
-        Places {
-            lo,
-            types: lo,
-            use_ref,
-            ref_value,
-        },
-        State {
-            left,
-            top,
-            stack,
-            refused: 0,
-        },
+        &mut unifier,
+        places,
         slot.0,
         object.0,
         key,
         ref_like,
     );
-    let given = accessed.given;
-    let mut h = walked(g, accessed.state);
-    h.counts = counted(g.counts, given);
+    let mut h = walked(g, unifier.left, unifier.top, accessed.outcome);
+    h.counts = counted(g.counts, accessed.given);
     h
 }
 

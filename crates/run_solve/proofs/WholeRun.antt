@@ -4,6 +4,9 @@ use native.Mathlib.Omega.{arith}
 use mathlib.Core.Path.{◌≡◌, refl, sym, ap, ap₂, subst, ◌∙◌}
 use mathlib.Core.List.{List, [], ◌++◌}
 use lib.ListN.{length}
+use Rattle.std.proofs.Common.{Result, Ok, Err, MutBor}
+use Rattle.image.specs.Refusals.{number}
+use Rattle.image.specs.declared.refusal.Refusal.{Refusal}
 use Rattle.image.specs.Ty.{Ty}
 use Rattle.image.specs.declared.Table.TheVariants.{Slots, Types, Lists}
 use Rattle.image.specs.Image.{count, cell}
@@ -17,7 +20,10 @@ use Rattle.unifier_definition.specs.Unify.{unify_all}
 use Rattle.unifier_definition.specs.Counts.{no_lookups, count_lookups}
 use Rattle.unifier_counts.specs.Given.{counts_of}
 use Rattle.unifier_nodes.specs.Work.{at, Good, Room}
+use Rattle.unifier_nodes.specs.States.{ComesTo}
+use Rattle.unifier_nodes.specs.declared.state.Unifier.{Unifier}
 use Rattle.unifier_nodes.proofs.Frames.{good_same}
+use Rattle.unifier_nodes.proofs.Promised.{refuses_number}
 use Rattle.run_definition.specs.Generate.{generate}
 use Rattle.run_generate.specs.Generating.{generate_for}
 use Rattle.run_definition.specs.Visits.{visits, resolve_identifiers}
@@ -27,11 +33,10 @@ use Rattle.run_layout.specs.Layout.{Prepared, LayAsked, LaysOut}
 use Rattle.run_walk.specs.Running.{none_logged, Ready, Ran, Generates}
 use Rattle.run_answer.specs.Lent.{answer_of, cleared}
 use Rattle.run_tables.specs.Standing.{SlotsStand, all_types, ResolvedRun, AnswerAsked, AnswersTables}
-use Rattle.run_apply.specs.Applying.{Applying, Applies, ResolvedTo}
+use Rattle.run_apply.specs.Applying.{SlotsIn, Applying, Applies}
 use Rattle.run_solve.specs.Solve.{first_walk, RunAsked, StandsSolved, Solves}
 use Rattle.run_layout.specs.declared.Layout.{Layout}
 use Rattle.run_walk.specs.declared.Walk.{Walk}
-use Rattle.run_apply.specs.declared.Pass.{Pass}
 use Rattle.run_answer.specs.declared.Answer.{Answer as Answered}
 use Rattle.run_definition.proofs.ProgramScope.{scoped_program, entries_length}
 use Rattle.run_definition.proofs.PositionLaws.{entry_poly}
@@ -39,14 +44,11 @@ use Rattle.run_definition.proofs.PositionsBody.{checked}
 use Rattle.run_definition.proofs.GenerateScope.{generate_scoped}
 use Rattle.run_definition.proofs.Finished.{run_finished, finished_length}
 use Rattle.run_definition.proofs.TableSizes.{finished_words, entries_sized, image_slots}
+use Rattle.run_walk.proofs.Equating.{starts}
 use Rattle.run_walk.proofs.Composing.{LayoutAt, layout_at, prepared_after, refuses_as}
 use Rattle.run_tables.proofs.Finishing.{types_many}
 use Rattle.run_solve.proofs.Lending.{sizes, cleared_length, cleared_zero}
 use Rattle.run_solve.proofs.RunParts.{equations_refused, visits_refused, run_done, tables_fit, fit_slots, good_none, registry_is, outermost_gives}
-
--- the pass after its equations
-abbrev pub first_pass : Walk → Pass
-first_pass g = record { left = g.left; top = g.top; refused = 0; at = 0 }
 
 -- a refusal, as the answer of `solve`
 solves_refused : {img bytes w w' : List ℕ} {budget lent : ℕ} (number steps : ℕ) {lay : Layout} {r : Answered} → output_of budget lent (infer_types (program img bytes) budget) ≡ refusal number steps 0
@@ -192,46 +194,55 @@ module _ {img bytes w w₀ w₁ : List ℕ} {budget : ℕ} {lay : Layout} (b : B
           let m = gen.keeps.fewer in
           record { heap = omega arith; hand = omega arith; small = omega (arith, words_few) }
 
-      -- what `apply` asks
-      pub applying : Applying img w₂ lay (first_pass g)
-      applying = record {
+      -- what `apply` asks, over these words
+      pub applying : {words : MutBor (List ℕ)} → words.now ≡ w₂ → Applying img lay (starts words lay g g.top)
+      applying e = record {
         bytes = bytes;
         budget = budget;
         passed = b.asked.passed;
-        prepared = still_prepared;
+        prepared = rw e still_prepared;
+        lo = refl;
+        stack = refl;
         fewer = gen.keeps.fewer;
-        room = room;
-        running = refl;
+        room = rw e room;
         σ = σ;
         types = p.entries;
-        good = good;
-        stand = entry_types;
+        good = rw e good;
+        stand = rw e entry_types;
       }
 
-      module _ {w₃ : List ℕ} {a : Pass} (app : Applies (λ names. visits (program img names)) img w₂ w₃ lay (first_pass g) a) where
-        resolved : ResolvedTo w₃ lay a (resolve_identifiers σ g.left p.entries (visits p))
-        resolved = app.means bytes budget b.asked.passed σ p.entries good entry_types
+      module _ (words : MutBor (List ℕ)) (e : words.now ≡ w₂) (u : Unifier) {w₃ : List ℕ} (e' : w₃ ≡ u.words.now) where
+        -- the promise of `apply` there
+        abbrev pub Applied : Result (Unit {0}) Refusal → Type 0
+        Applied o = Applies (λ names. visits (program img names)) img lay (starts words lay g g.top) u o
+
+        came : (o : Result (Unit {0}) Refusal) → Applied o → ComesTo (λ v x. SlotsIn lay v) u o (resolve_identifiers σ g.left p.entries (visits p))
+        came o app = app.means bytes budget b.asked.passed σ p.entries (rw e good) (rw e entry_types)
 
         -- as many work words as there were
-        applied_length : length w₃ ≡ length w
-        applied_length = app.keeps.len ∙ generated_length
+        applied_length : (o : Result (Unit {0}) Refusal) → Applied o → length w₃ ≡ length w
+        applied_length o app = ap length e' ∙ app.keeps.len ∙ ap length e ∙ generated_length
 
         -- the answer where a visit is refused
-        pub apply_stops : {lent : ℕ} {r : Answered} → (a.refused ≡ 0 → ⊥) → answer_of r ≡ (refusal a.refused (budget - a.left) 0).answer → Solves img bytes budget w w₃ lent (record { answer = r; lay = lay })
-        apply_stops {lent} n e =
-            let h = resolved.ended n in
-            solves_refused a.refused (budget - a.left) (visits_refused p budget lent unified h.is ∙ ap (λ m. refusal m (budget - a.left) 0) (sym h.by_number)) n e applied_length
+        pub apply_stops : (why : Refusal) → Applied (Err why) → {lent : ℕ} {r : Answered} → answer_of r ≡ (refusal (number why) (budget - u.left) 0).answer
+            → Solves img bytes budget w w₃ lent (record { answer = r; lay = lay })
+        apply_stops why app {lent} a =
+            let h = came (Err why) app in
+            solves_refused (number why) (budget - u.left) (visits_refused p budget lent unified h.is ∙ ap (λ m. refusal m (budget - u.left) 0) (sym h.by_number)) (refuses_number h) a (applied_length (Err why) app)
 
-        module _ (n : a.refused ≡ 0) where
+        module _ (app : Applied (Ok tt)) where
+          resolved : (types : List Ty) × (resolve_identifiers σ g.left p.entries (visits p) ≡ done types u.left) × SlotsIn lay u types
+          resolved = came (Ok tt) app
+
           abbrev types : List Ty
-          types = (resolved.finished n).0
+          types = resolved.0
 
           -- the final state
           abbrev final : Final
           final = record { log = σ; types = types ++ made_types (length p.entries) (generate p).slots; counts = counts_of g.counts }
 
-          whole : infer_types p budget ≡ done final a.left
-          whole = rw (← counts_are) (run_done p budget unified (resolved.finished n).1)
+          whole : infer_types p budget ≡ done final u.left
+          whole = rw (← counts_are) (run_done p budget unified resolved.1)
 
           -- every slot's type, in the terms of `table_answer`
           all_are : final.types ≡ all_types lay g.next types
@@ -245,13 +256,14 @@ module _ {img bytes w w₀ w₁ : List ℕ} {budget : ℕ} {lay : Layout} (b : B
           resolved_run =
               let f = layout in
               let i = entries_inside in
-              let e = gen.keeps.len in
-              let d = app.keeps.len in
+              let l₂ = gen.keeps.len in
+              let l₃ = applied_length (Ok tt) app in
+              let l₁ = generated_length in
               record {
-                top = a.top;
+                top = u.top;
                 inside = omega (arith, room.heap, room.hand, app.keeps.spent);
-                good = good_same w₃ a.top app.keeps.grows (λ k x y. app.keeps.below k y) good;
-                stand = (resolved.finished n).2;
+                good = rw e' (good_same u.words.now u.top app.keeps.grows (λ k x y. app.keeps.below k y ∙ ap (λ v. at v k) e) good);
+                stand = subst (λ v. SlotsStand v lay u.top types) (sym e') resolved.2;
                 first = omega (arith, (generate_scoped (scoped_program img bytes c)).grows, made, entries_many);
                 bound = omega (arith, (gen.keeps.pays z).made);
                 apart = omega arith;
@@ -272,15 +284,15 @@ module _ {img bytes w w₀ w₁ : List ℕ} {budget : ℕ} {lay : Layout} (b : B
           }
 
           -- what all of it comes to
-          outputs : (lent : ℕ) → output_of budget lent (infer_types p budget) ≡ with_tables lent (budget - a.left) (counts_of g.counts) (all_types lay g.next types) (binding_rows σ g.next)
+          outputs : (lent : ℕ) → output_of budget lent (infer_types p budget) ≡ with_tables lent (budget - u.left) (counts_of g.counts) (all_types lay g.next types) (binding_rows σ g.next)
           unfolding output_of
           outputs lent =
               ap (output_of budget lent) whole
-              ∙ ap₂ (λ x m. with_tables lent (budget - a.left) (counts_of g.counts) x (binding_rows σ m)) all_are rows_are
+              ∙ ap₂ (λ x m. with_tables lent (budget - u.left) (counts_of g.counts) x (binding_rows σ m)) all_are rows_are
 
           -- its answer, which has every slot where the tables have room
-          module _ {lent : ℕ} {r : Answered} (h : AnswersTables w₃ lay g.next (budget - a.left) g.counts lent r) where
-            answers : answer_of r ≡ (with_tables lent (budget - a.left) (counts_of g.counts) (all_types lay g.next types) (binding_rows σ g.next)).answer
+          module _ {lent : ℕ} {r : Answered} (h : AnswersTables w₃ lay g.next (budget - u.left) g.counts lent r) where
+            answers : answer_of r ≡ (with_tables lent (budget - u.left) (counts_of g.counts) (all_types lay g.next types) (binding_rows σ g.next)).answer
             answers = h.answers σ types resolved_run
 
             slots_are : r.number ≡ 0 → r.slots ≡ g.next
@@ -288,8 +300,8 @@ module _ {img bytes w w₀ w₁ : List ℕ} {budget : ℕ} {lay : Layout} (b : B
             slots_are e =
                 let ts = all_types lay g.next types in
                 let rows = binding_rows σ g.next in
-                let fits = tables_fit lent (budget - a.left) (counts_of g.counts) ts rows (sym (ap (λ o. o.number) answers) ∙ e) in
-                ap (λ o. o.slots) answers ∙ fit_slots lent (budget - a.left) (counts_of g.counts) ts rows fits ∙ types_many resolved_run
+                let fits = tables_fit lent (budget - u.left) (counts_of g.counts) ts rows (sym (ap (λ o. o.number) answers) ∙ e) in
+                ap (λ o. o.slots) answers ∙ fit_slots lent (budget - u.left) (counts_of g.counts) ts rows fits ∙ types_many resolved_run
 
             -- the words that stand for the final state
             stands : r.number ≡ 0 → StandsSolved img bytes budget w₃ (record { answer = r; lay = lay })
@@ -297,7 +309,7 @@ module _ {img bytes w w₀ w₁ : List ℕ} {budget : ℕ} {lay : Layout} (b : B
                 let s = sym (slots_are e) in
                 record {
                   final = final;
-                  left = a.left;
+                  left = u.left;
                   is = whole;
                   laid = l.prepared.is;
                   types = types;
@@ -307,4 +319,4 @@ module _ {img bytes w w₀ w₁ : List ℕ} {budget : ℕ} {lay : Layout} (b : B
 
             -- the answer where all is done
             pub run_finishes : Solves img bytes budget w w₃ lent (record { answer = r; lay = lay })
-            run_finishes = record { answers = answers ∙ sym (ap (λ o. o.answer) (outputs lent)); stands = stands; len = applied_length }
+            run_finishes = record { answers = answers ∙ sym (ap (λ o. o.answer) (outputs lent)); stands = stands; len = applied_length (Ok tt) app }

@@ -6,10 +6,10 @@ ghost use Rattle.run_solve.specs.Solve.{first_walk, RunAsked, Solves};
 
 use image::{Table, count};
 use run_answer::{Answer, clear, refusal};
-use run_apply::Pass;
 use run_layout::Layout;
 use run_walk::Walk;
 use unifier_counts::Counts;
+use unifier_nodes::state::Unifier;
 
 // The answer of the run with its tables, and where its final state stands.
 #[derive(Clone, Copy)]
@@ -22,15 +22,12 @@ pub struct Solved {
 fn first_walk(budget: u32, lay: Layout) -> Walk
     ensures { result ≡ first_walk budget lay }
 {
-    let top = lay.top;
-    let next = lay.slots;
-    let log = lay.log;
     Walk {
         left: budget,
-        top,
+        top: lay.top,
         refused: 0,
-        next,
-        log,
+        next: lay.slots,
+        log: lay.log,
         at: 0,
         counts: Counts {
             exact: 0,
@@ -56,31 +53,19 @@ pub fn solve(img: &[u32], bytes: &[u8], budget: u32, w: &mut [u32], table_words:
         let answer = refusal(number, budget - left, 0);
         return Solved { answer, lay };
     }
-    let top = g.top;
-    let a = run_apply::apply(
-        img,
-        w,
-        lay,
-        Pass {
-            left,
-            top,
-            refused: 0,
-            at: 0,
-        },
-    );
-    let left_after = a.left;
-    let refused_after = a.refused;
-    if refused_after != 0 {
-        let answer = refusal(refused_after, budget - left_after, 0);
+    let mut unifier = Unifier {
+        words: &mut *w,
+        lo: lay.lo,
+        left,
+        top: g.top,
+        stack: lay.stack,
+    };
+    let outcome = run_apply::apply(img, &mut unifier, lay);
+    let steps = budget - unifier.left;
+    if let Err(why) = outcome {
+        let answer = Answer::refused(why, steps, 0);
         return Solved { answer, lay };
     }
-    let answer = run_tables::table_answer(
-        w,
-        lay,
-        budget - left_after,
-        g.next,
-        g.counts,
-        table_words,
-    );
+    let answer = run_tables::table_answer(w, lay, steps, g.next, g.counts, table_words);
     Solved { answer, lay }
 }

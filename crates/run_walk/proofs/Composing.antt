@@ -20,7 +20,8 @@ use Rattle.unifier_properties.specs.Lookup.{registry_of}
 use Rattle.unifier_counts.specs.Given.{counts_of}
 use Rattle.unifier_nodes.proofs.Frames.{Same, rep_same}
 use Rattle.unifier_definition.proofs.Fuel.{unify_none}
-use Rattle.unifier_nodes.proofs.Getting.{by_zero, refuses_then}
+use Rattle.unifier_nodes.proofs.Getting.{by_zero}
+use Rattle.unifier_nodes.proofs.Promised.{refuses_then}
 use Rattle.unifier_definition.proofs.RunLaws.{unify_all_append}
 use Rattle.unifier_definition.proofs.CountLaws.{count_append}
 use Rattle.run_definition.specs.Equations.{NamesLog, Generated}

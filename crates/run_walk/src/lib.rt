@@ -4,15 +4,17 @@
 ghost use Rattle.std.specs.Prelude.{◌≡◌, ◌+◌, ◌*◌, ◌≤◌, ◌<◌, length};
 ghost use Rattle.image.specs.Image.{word, cell};
 ghost use Rattle.image.specs.Laid.{Laid};
+ghost use Rattle.image.specs.Refusals.{refused as number_of_outcome};
 ghost use Rattle.run_definition.specs.Fitting.{IdentifierAt};
 ghost use Rattle.run_walk.specs.Solving.{EqualAsked, Equates, MadeAsked, EquatesMade};
 
+use image::refusal::Refusal;
 use image::{IdentifierId, Table, TypeId, refusals};
 use run_layout::{Layout, OWN_OBJECTS};
 use unifier::bind::unify;
 use unifier_counts::Counts;
 use unifier_nodes::node::{NODE_WORDS, put_node};
-use unifier_nodes::state::State;
+use unifier_nodes::state::Unifier;
 
 // The steps left, the next free word of nodes, 0 or a refusal, the next slot to be made, the end of the names log, where reading
 // goes on in the image, and the counts of the lookups so far.
@@ -27,39 +29,18 @@ pub struct Walk {
     pub counts: Counts,
 }
 
-// The state that the unifier starts from, with its next node at top.
-fn state_of(g: Walk, top: u32, stack: u32) -> State
-    ensures { result ≡ record { left = g.left; top = top; stack = stack; refused = 0 } }
+// The walk after the unifier came to this.
+pub fn walked(g: Walk, left: u32, top: u32, outcome: Result<(), Refusal>) -> Walk
+    ensures { result ≡ record { left = left; top = top; refused = number_of_outcome outcome; next = g.next; log = g.log; at = g.at; counts = g.counts } }
 {
-    let left = g.left;
-    State {
-        left,
-        top,
-        stack,
-        refused: 0,
-    }
-}
-
-// The walk after the unifier left this state.
-pub fn walked(g: Walk, st: State) -> Walk
-    ensures { result ≡ record { left = st.left; top = st.top; refused = st.refused; next = g.next; log = g.log; at = g.at; counts = g.counts } }
-{
-    let left = st.left;
-    let top = st.top;
-    let refused = st.refused;
-    let next = g.next;
-    let log = g.log;
-    let at = g.at;
-    let counts = g.counts;
-    Walk {
-        left,
-        top,
-        refused,
-        next,
-        log,
-        at,
-        counts,
-    }
+    let mut h = g;
+    h.left = left;
+    h.top = top;
+    h.refused = match outcome {
+        Ok(()) => 0,
+        Err(why) => u32::from(why),
+    };
+    h
 }
 
 // No step is left for what comes next.
@@ -113,8 +94,15 @@ pub fn equal(w: &mut [u32], lay: Layout, g: Walk, slot: TypeId, b: u32) -> Walk
     if refused != 0 {
         return g;
     }
-    let st = unify(w, lay.lo, state_of(g, g.top, lay.stack), slot.0, b);
-    walked(g, st)
+    let mut unifier = Unifier {
+        words: &mut *w,
+        lo: lay.lo,
+        left: g.left,
+        top: g.top,
+        stack: lay.stack,
+    };
+    let outcome = unify(&mut unifier, slot.0, b);
+    walked(g, unifier.left, unifier.top, outcome)
 }
 
 // The types of a slot and of a node that is made for it are made one.
@@ -136,12 +124,13 @@ pub fn equal_made(
     }
     let top = g.top;
     put_node(w, top, kind, x, y);
-    let st = unify(
-        w,
-        lay.lo,
-        state_of(g, top + NODE_WORDS, lay.stack),
-        slot.0,
-        top,
-    );
-    walked(g, st)
+    let mut unifier = Unifier {
+        words: &mut *w,
+        lo: lay.lo,
+        left,
+        top: top + NODE_WORDS,
+        stack: lay.stack,
+    };
+    let outcome = unify(&mut unifier, slot.0, top);
+    walked(g, unifier.left, unifier.top, outcome)
 }

@@ -1,30 +1,25 @@
 -- An unbound variable meets a Phi: what each return of `bind_phi` means. Assumes nothing.
-use mathlib.Core.Path.{◌≡◌, refl, sym, ap, ◌∙◌, subst}
-use mathlib.Core.List.{List}
+use Rattle.std.proofs.Common.{◌≡◌, refl, sym, ap, ◌∙◌, subst, ℕ, ◌+◌, ◌≤◌, ◌<◌, arith, List, length, Option as Maybe, Some, None, Result, Ok, Err}
 use mathlib.Core.Option.{Option, none, some}
-use Prim.Native.Nat.{ℕ, ◌+◌, ◌≤◌, ◌<◌}
-use native.Mathlib.Omega.{arith}
-use lib.ListN.{length}
+use Rattle.image.specs.Refusals.{number}
+use Rattle.image.specs.declared.refusal.Refusal.{Refusal}
+use Rattle.image.specs.declared.refusal.Refusal.TheVariants.{EmptyPhi}
 use Rattle.image.specs.Ty.{Ty, var, phi, Tys, nil, cons, count_of}
 use Rattle.unifier_definition.specs.Cases.{as_var, as_phi}
 use Rattle.unifier_definition.specs.Log.{Log}
 use Rattle.unifier_definition.specs.Outcome.{empty_phi, number_of, done, and_then}
 use Rattle.unifier_definition.specs.Resolve.{get}
 use Rattle.unifier_definition.specs.Unify.{candidate_type, bind_checked, bind_phi, binding_of, bind_unbound, unify}
-use Rattle.unifier_nodes.specs.Work.{at, Rep, rep_var, Reps, Good}
-use Rattle.unifier_nodes.specs.Walks.{Known, ReadsNode}
-use Rattle.unifier_nodes.specs.Promises.{CandidateIs, Gives, Keeps, KnownBoth, Binds}
-use Rattle.unifier.specs.Choices.{BindsSlot, KnownRest, Chooses}
-use Rattle.unifier.specs.declared.bind.Chosen.{Chosen}
-use Rattle.unifier_nodes.specs.declared.node.Candidate.{Candidate}
-use Rattle.unifier_nodes.specs.declared.node.Candidate.TheVariants.{Found, Nothing}
+use Rattle.unifier_nodes.specs.Work.{at, Rep, rep_var, Reps}
+use Rattle.unifier_nodes.specs.Walks.{ReadsNode}
+use Rattle.unifier_nodes.specs.States.{RoomIn, GoodIn, RepIn, Known, KnownBoth, Keeps}
+use Rattle.unifier_nodes.specs.Promises.{Gives, Binds, BindsSlot, LogIn}
+use Rattle.unifier.specs.Choices.{RestIn, KnownRest, ChosenIn, Chooses}
 use Rattle.unifier_nodes.specs.declared.node.Node.TheVariants.{Phi}
-use Rattle.unifier_nodes.specs.declared.state.Got.{Got}
-use Rattle.unifier_nodes.specs.declared.state.State.{State}
-use Rattle.unifier_nodes.proofs.Frames.{rep_same, reps_same, good_same, frame_from}
-use Rattle.unifier.proofs.Binding.{restated, keeps_still, keeps_trans, unifies_refused, unifies_as}
-use Rattle.unifier_nodes.proofs.Getting.{refuses_then}
-use Rattle.unifier.proofs.Checked.{after}
+use Rattle.unifier_nodes.specs.declared.state.Unifier.{Unifier}
+use Rattle.unifier_nodes.proofs.Frames.{reps_same}
+use Rattle.unifier_nodes.proofs.Getting.{room_fits}
+use Rattle.unifier_nodes.proofs.Promised.{keeps_refl, keeps_from, keeps_trans, room_kept, good_kept, rep_kept, refuses_then, comes_as, promise_by}
 use Rattle.unifier.proofs.Candidates.{operand}
 
 phi_is : (σ : Log) (s x : ℕ) {t : Ty} {ts : Tys} → t ≡ phi ts → bind_unbound unify σ s x t ≡ bind_phi unify σ s x ts
@@ -49,11 +44,11 @@ operands {top = top} {t = t} f h z r =
     let m = o.many in
     record { first = o.t; rest = o.rest; is = x.1 ∙ ap phi o.is; low = o.low; rep = o.rep; reps = o.reps; many = omega arith }
 
-pub operand_known : {w : List ℕ} {lo top n a count : ℕ} → top ≤ length w → ReadsNode w lo n (Phi a count) → (count ≡ 0 → ⊥) → Known w lo top n
-    → (a < top) × Known w lo top (at w a)
-operand_known f h z k =
+pub operand_known : {u : Unifier} {n a count : ℕ} → ReadsNode u.words.now u.lo n (Phi a count) → (count ≡ 0 → ⊥) → Known u n → (a < length u.words.now) × Known u (at u.words.now a)
+operand_known h z k =
+    let f = room_fits k.room in
     let o = operands f h z k.rep in
-    (o.low, record { σ = k.σ; t = o.first; good = k.good; rep = o.rep })
+    (let l = o.low in omega arith, record { room = k.room; σ = k.σ; t = o.first; good = k.good; rep = o.rep })
 
 no_operands : (ts : Tys) → 0 ≡ count_of ts → ts ≡ nil
 unfolding count_of
@@ -61,141 +56,120 @@ no_operands nil e = refl
 no_operands (cons t ts) e = absurd (omega arith)
 
 -- it has no operands
-pub phi_empty : {w : List ℕ} {lo : ℕ} {slot n a count : ℕ} (st : State) → st.top ≤ length w → ReadsNode w lo n (Phi a count) → count ≡ 0
-    → BindsSlot (bind_unbound unify) w w lo st slot n (restated st st.left 11)
-unfolding bind_phi number_of
-phi_empty {w} {lo} {slot} st f h z = record {
-  keeps = keeps_still w lo st st.left 11 (omega arith);
-  means = λ σ t good q.
-      let x = h.shows st.top t f q in
-      unifies_refused (record {
-        why = empty_phi;
-        log = σ;
-        is = phi_is σ st.left slot x.1 ∙ rw (no_operands x.0 (sym z ∙ x.2));
-        by_number = refl;
-        good = good;
-      });
-}
+pub phi_empty : {u : Unifier} {n a count : ℕ} (slot : ℕ) → RoomIn u → ReadsNode u.words.now u.lo n (Phi a count) → count ≡ 0
+    → BindsSlot (bind_unbound unify) u slot n u (Err EmptyPhi)
+unfolding bind_phi number number_of
+phi_empty {u} slot room h z = promise_by (Err EmptyPhi) (keeps_refl u.lo u) (λ σ t good q.
+    let x = h.shows u.top t (room_fits room) q in
+    record {
+      why = empty_phi;
+      log = σ;
+      is = phi_is σ u.left slot x.1 ∙ rw (no_operands x.0 (sym z ∙ x.2));
+      by_number = refl;
+      good = good;
+    })
 
-module _ {w w₁ : List ℕ} {lo : ℕ} {st : State} {n a count : ℕ} {g : Got} (f : st.top ≤ length w) (h : ReadsNode w lo n (Phi a count)) (nz : count ≡ 0 → ⊥)
-    (gives : Gives w w₁ lo st (at w a) g) where
-  gives_keeps : Keeps w w₁ lo st (after st g)
-  gives_keeps = record { frame = frame_from lo gives.frame; paid = gives.paid; stack = refl }
-
+module _ {u : Unifier} {n a count : ℕ} (room : RoomIn u) (h : ReadsNode u.words.now u.lo n (Phi a count)) (nz : count ≡ 0 → ⊥) where
   -- no step was left for the first operand
-  pub phi_spent : {slot : ℕ} → (g.refused ≡ 0 → ⊥) → BindsSlot (bind_unbound unify) w w₁ lo st slot n (after st g)
+  pub phi_spent : {x : Unifier} {why : Refusal} (slot : ℕ) → Gives u (at u.words.now a) x (Err why) → BindsSlot (bind_unbound unify) u slot n x (Err why)
   unfolding bind_phi
-  phi_spent {slot} z = record {
-    keeps = gives_keeps;
-    means = λ σ t good q.
-        let o = operands f h nz q in
-        unifies_refused (refuses_then _ (phi_is σ st.left slot o.is) ((gives.means σ o.first good o.rep).ended z));
-  }
+  phi_spent {why = why} slot gives = promise_by (Err why) (keeps_from u.lo gives.keeps) (λ σ t good q.
+      let o = operands (room_fits room) h nz q in
+      refuses_then _ (phi_is σ u.left slot o.is) (gives.means σ o.first good o.rep))
 
-  module _ (z : g.refused ≡ 0) where
+  module _ {x : Unifier} {first : ℕ} (gives : Gives u (at u.words.now a) x (Ok first)) where
     -- what the first operand resolved to, and what it leaves as it was
     pub record First (σ : Log) (t : Ty) : Type 0 where
-      pub operands_of : Operands w lo st.top n a count t
+      pub operands_of : Operands u.words.now u.lo u.top n a count t
       pub resolved : Ty
-      pub got : get σ st.left operands_of.first ≡ done resolved g.left
-      pub good : Good w₁ lo g.top σ
-      pub rep : Rep w₁ lo g.top g.node resolved
-      pub reps : Reps w₁ lo g.top n g.top (a + 1) operands_of.rest
-      pub whole : Rep w₁ lo g.top n t
+      pub got : get σ u.left operands_of.first ≡ done resolved x.left
+      pub good : GoodIn x σ
+      pub whole : RepIn x n t
+      pub rest : RestIn first a count x (resolved, operands_of.rest)
 
-    first_of : {σ : Log} {t : Ty} → Good w lo st.top σ → Rep w lo st.top n t → First σ t
+    first_of : {σ : Log} {t : Ty} → GoodIn u σ → RepIn u n t → First σ t
     first_of {σ} {t} good q =
-        let o = operands f h nz q in
-        let x = (gives.means σ o.first good o.rep).finished z in
-        let grows = gives.frame.grows in
-        let below : (j : ℕ) → lo ≤ j → j < st.top → at w₁ j ≡ at w j = λ j l b. gives.frame.below j (omega arith) b in
+        let o = operands (room_fits room) h nz q in
+        let i = gives.means σ o.first good o.rep in
+        let F = gives.keeps.frame in
+        let e = gives.keeps.lo in
         record {
           operands_of = o;
-          resolved = x.0;
-          got = x.1;
-          good = good_same w₁ g.top grows gives.frame.below good;
-          rep = x.2;
-          reps = reps_same w₁ g.top grows below 0 n g.top (omega arith) (omega arith) grows (λ j l m b. below j m b) o.reps;
-          whole = rep_same w₁ g.top grows below q;
+          resolved = i.0;
+          got = i.1;
+          good = good_kept gives.keeps good;
+          whole = rep_kept (omega arith) gives.keeps q;
+          rest = (
+            i.2,
+            (
+              n,
+              subst (λ (l : ℕ). Reps x.words.now l x.top n x.top (a + 1) o.rest) (sym e)
+                  (reps_same x.words.now x.top F.grows (λ j l b. F.below j (omega arith) b) 0 n x.top (omega arith) (omega arith) F.grows (λ j l m b. F.below j (omega arith) b) o.reps),
+              o.many,
+            ),
+          );
         }
 
-    pub first_known : Known w lo st.top n → KnownRest w₁ lo g.top g.node a count
+    pub first_known : Known u n → KnownRest x first a count
     first_known k =
-        let x = first_of k.good k.rep in
-        record {
-          σ = k.σ;
-          t = x.resolved;
-          ts = x.operands_of.rest;
-          last = n;
-          good = x.good;
-          rep = x.rep;
-          reps = x.reps;
-          many = x.operands_of.many;
-        }
+        let f = first_of k.good k.rep in
+        record { room = room_kept gives.keeps k.room; σ = k.σ; t = f.resolved; ts = f.operands_of.rest; good = f.good; rest = f.rest }
 
-    module _ {w₂ : List ℕ} {c : Chosen} (chooses : Chooses w₁ w₂ lo (after st g) g.node a count c) where
-      pub chooses_keeps : Keeps w w₂ lo st c.st
-      chooses_keeps = keeps_trans gives_keeps (record { frame = frame_from lo chooses.frame; paid = chooses.paid; stack = chooses.stack })
-
-      good_after : {σ : Log} {t : Ty} → First σ t → Good w₂ lo c.st.top σ
-      good_after x = good_same w₂ c.st.top chooses.frame.grows chooses.frame.below x.good
-
-      whole_after : {σ : Log} {t : Ty} → First σ t → Rep w₂ lo c.st.top n t
-      whole_after x = rep_same w₂ c.st.top chooses.frame.grows (λ j l b. chooses.frame.below j (omega arith) b) x.whole
-
+    module _ {y : Unifier} where
       -- no step was left for a later one
-      pub phi_stopped : {slot : ℕ} → (c.st.refused ≡ 0 → ⊥) → BindsSlot (bind_unbound unify) w w₂ lo st slot n c.st
+      pub phi_stopped : {why : Refusal} (slot : ℕ) → Chooses x first a count y (Err why) → BindsSlot (bind_unbound unify) u slot n y (Err why)
       unfolding bind_phi and_then
-      phi_stopped {slot} y = record {
-        keeps = chooses_keeps;
-        means = λ σ t good q.
-            let x = first_of good q in
-            let o = x.operands_of in
-            let k = (chooses.means n σ x.resolved o.rest x.good x.rep x.reps o.many).ended y in
-            unifies_refused (record { why = k.why; log = k.log; is = phi_is σ st.left slot o.is ∙ rw (x.got, k.is); by_number = k.by_number; good = k.good });
-      }
+      phi_stopped {why} slot chooses = promise_by (Err why) (keeps_from u.lo (keeps_trans gives.keeps chooses.keeps)) (λ σ t good q.
+          let f = first_of good q in
+          let k = chooses.means σ (f.resolved, f.operands_of.rest) f.good f.rest in
+          record { why = k.why; log = k.log; is = phi_is σ u.left slot f.operands_of.is ∙ rw (f.got, k.is); by_number = k.by_number; good = k.good })
 
-      module _ (y : c.st.refused ≡ 0) where
+      module _ {o : Maybe ℕ} (chooses : Chooses x first a count y (Ok o)) where
+        pub chosen_keeps : Keeps 0 u y
+        chosen_keeps = keeps_trans gives.keeps chooses.keeps
+
+        pub chosen_lo : {slot : ℕ} → slot < u.lo → slot < y.lo
+        chosen_lo l = let e = chosen_keeps.lo in omega arith
+
+        -- the calls after it keep the words of nodes
+        after_it : {z : Unifier} → Keeps y.lo y z → Keeps u.lo u z
+        after_it {z} k = keeps_trans (keeps_from u.lo chosen_keeps) (subst (λ (l : ℕ). Keeps l y z) chosen_keeps.lo k)
+
         -- the candidate in the definition
-        chosen : {σ : Log} {t : Ty} (x : First σ t) → (o : Option Ty) × (candidate_type σ g.left x.resolved x.operands_of.rest ≡ done o c.st.left) × CandidateIs w₂ lo c.st.top c.candidate o
-        chosen {σ} x = (chooses.means n σ x.resolved x.operands_of.rest x.good x.rep x.reps x.operands_of.many).finished y
+        chosen : {σ : Log} {t : Ty} (f : First σ t) → (q : Option Ty) × (candidate_type σ x.left f.resolved f.operands_of.rest ≡ done q y.left) × ChosenIn y o q
+        chosen {σ} f = chooses.means σ (f.resolved, f.operands_of.rest) f.good f.rest
 
-        module _ {m : ℕ} (e : c.candidate ≡ Found m) where
-          found : {σ : Log} {t : Ty} (x : First σ t) → (u : Ty) × (candidate_type σ g.left x.resolved x.operands_of.rest ≡ done (some u) c.st.left) × Rep w₂ lo c.st.top m u
-          found x =
-              let p = chosen x in
-              let q : CandidateIs w₂ lo c.st.top (Found m) p.0 = subst (λ (d : Candidate). CandidateIs w₂ lo c.st.top d p.0) e p.2 in
-              (q.0, p.1 ∙ ap (λ (d : Option Ty). done d c.st.left) q.1, q.2)
+        module _ {m : ℕ} (e : o ≡ Some m) where
+          found : {σ : Log} {t : Ty} (f : First σ t) → (v : Ty) × (candidate_type σ x.left f.resolved f.operands_of.rest ≡ done (some v) y.left) × RepIn y m v
+          found f =
+              let p = chosen f in
+              let q : ChosenIn y (Some m) p.0 = subst (λ (d : Maybe ℕ). ChosenIn y d p.0) e p.2 in
+              (q.0, p.1 ∙ ap (λ (d : Option Ty). done d y.left) q.1, q.2)
 
           -- the candidate is unified with the variable
-          pub phi_found : {w₃ : List ℕ} {slot : ℕ} {r : State} → slot < lo → Binds unify w₂ w₃ lo c.st slot m r → BindsSlot (bind_unbound unify) w w₃ lo st slot n r
+          pub phi_found : {z : Unifier} (slot : ℕ) (r : Result (Unit {0}) Refusal) → slot < u.lo → Binds unify y slot m z r → BindsSlot (bind_unbound unify) u slot n z r
           unfolding bind_phi and_then
-          phi_found {slot = slot} lt u = record {
-            keeps = keeps_trans chooses_keeps u.keeps;
-            means = λ σ t good q.
-                let x = first_of good q in
-                let p = found x in
-                unifies_as (phi_is σ st.left slot x.operands_of.is ∙ rw (x.got, p.1)) (u.means σ (var slot) p.0 (good_after x) (rep_var lt refl) p.2);
-          }
+          phi_found {z} slot r l b = promise_by r (after_it b.keeps) (λ σ t good q.
+              let f = first_of good q in
+              let p = found f in
+              comes_as LogIn z r (phi_is σ u.left slot f.operands_of.is ∙ rw (f.got, p.1)) (b.means σ (var slot, p.0) (good_kept chooses.keeps f.good) (rep_var (chosen_lo l) refl, p.2)))
 
-          pub found_known : {slot : ℕ} → slot < lo → Known w lo st.top n → KnownBoth w₂ lo c.st.top slot m
-          found_known {slot} lt k =
-              let x = first_of k.good k.rep in
-              let p = found x in
-              record { σ = k.σ; t = var slot; u = p.0; good = good_after x; left = rep_var lt refl; right = p.2 }
+          pub found_known : {slot : ℕ} → slot < u.lo → Known u n → KnownBoth y slot m
+          found_known {slot} l k =
+              let f = first_of k.good k.rep in
+              let p = found f in
+              record { room = room_kept chosen_keeps k.room; σ = k.σ; t = var slot; v = p.0; good = good_kept chooses.keeps f.good; left = rep_var (chosen_lo l) refl; right = p.2 }
 
         -- there is none, and the Phi itself is bound
-        pub phi_none : {w₃ : List ℕ} {slot : ℕ} {r : State} → c.candidate ≡ Nothing → BindsSlot bind_checked w₂ w₃ lo c.st slot n r → BindsSlot (bind_unbound unify) w w₃ lo st slot n r
+        pub phi_none : {z : Unifier} (slot : ℕ) (r : Result (Unit {0}) Refusal) → o ≡ None → BindsSlot bind_checked y slot n z r → BindsSlot (bind_unbound unify) u slot n z r
         unfolding bind_phi and_then
-        phi_none {slot = slot} e u = record {
-          keeps = keeps_trans chooses_keeps u.keeps;
-          means = λ σ t good q.
-              let x = first_of good q in
-              let p = chosen x in
-              let d : p.0 ≡ none = subst (λ (d : Candidate). CandidateIs w₂ lo c.st.top d p.0) e p.2 in
-              let o = x.operands_of in
-              unifies_as (phi_is σ st.left slot o.is ∙ rw (x.got, p.1, d, ← o.is)) (u.means σ t (good_after x) (whole_after x));
-        }
+        phi_none {z} slot r e b = promise_by r (after_it b.keeps) (λ σ t good q.
+            let f = first_of good q in
+            let p = chosen f in
+            let d : p.0 ≡ none = subst (λ (d : Maybe ℕ). ChosenIn y d p.0) e p.2 in
+            comes_as LogIn z r (phi_is σ u.left slot f.operands_of.is ∙ rw (f.got, p.1, d, ← f.operands_of.is)) (b.means σ t (good_kept chooses.keeps f.good) (rep_kept (omega arith) chooses.keeps f.whole)))
 
-        pub none_known : Known w lo st.top n → Known w₂ lo c.st.top n
-        none_known k = let x = first_of k.good k.rep in record { σ = k.σ; t = k.t; good = good_after x; rep = whole_after x }
+        pub none_known : Known u n → Known y n
+        none_known k =
+            let f = first_of k.good k.rep in
+            record { room = room_kept chosen_keeps k.room; σ = k.σ; t = k.t; good = good_kept chooses.keeps f.good; rep = rep_kept (omega arith) chooses.keeps f.whole }

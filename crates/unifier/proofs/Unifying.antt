@@ -1,33 +1,31 @@
 -- `unify` and `bind_variable_to`: what each return means. Assumes nothing.
-use mathlib.Core.Path.{◌≡◌, refl, sym, ap, ◌∙◌}
-use mathlib.Core.Bool.{Bool, true, false, beq}
-use mathlib.Core.List.{List, [], ◌∷◌}
+use Rattle.std.proofs.Common.{◌≡◌, refl, sym, ap, ◌∙◌, subst, Bool, true, false, ℕ, ◌+◌, ◌≤◌, ◌<◌, arith, List, [], ◌∷◌, length, Result, Ok, Err}
+use mathlib.Core.Bool.{beq}
 use mathlib.Core.Option.{none, some}
-use Prim.Native.Nat.{ℕ, suc, ◌-◌, ◌≤◌, ◌<◌}
-use native.Mathlib.Omega.{arith}
-use lib.ListN.{length}
 use borrow.Author.Tests.{eq-eqb, ne_eqb}
 use denote.Enum.Declared.{tag_of}
 use types.Run.{OneOf, miss}
-use Rattle.image.specs.Ty.{Ty, var, func, function_kind}
+use Rattle.image.specs.declared.refusal.Refusal.{Refusal}
 use Rattle.image.specs.declared.TypeId.{TypeId}
+use Rattle.image.specs.Ty.{Ty, var, func, function_kind}
 use Rattle.unifier_definition.specs.Cases.{type_kind, is_poly, as_var, as_function, as_phi}
 use Rattle.unifier_definition.specs.Equal.{type_equals}
 use Rattle.unifier_definition.specs.Log.{Log, lookup}
-use Rattle.unifier_definition.specs.Outcome.{out_of_steps, number_of, done}
+use Rattle.unifier_definition.specs.Outcome.{done}
 use Rattle.unifier_definition.specs.Unify.{bind_checked, binding_of, bind_unbound, bind_slot, bind_body, unify_functions, unify_body, unify, bind_variable_to}
-use Rattle.unifier_nodes.specs.Work.{at, Leaf, leaf_prim, leaf_poly, leaf_method, leaf_object, Rep, rep_var, rep_leaf, rep_func, rep_phi, Good}
-use Rattle.unifier_nodes.specs.Walks.{Known, ReadsNode, TellsKind, Unifies}
-use Rattle.unifier_nodes.specs.Promises.{StandBoth, Equals, Keeps, KnownBoth, Binds, UnifiesNodes}
-use Rattle.unifier.specs.Choices.{BindsSlot, unify_as_functions}
+use Rattle.unifier_nodes.specs.Work.{at, Leaf, leaf_prim, leaf_poly, leaf_method, leaf_object, Rep, rep_var, rep_leaf, rep_func, rep_phi}
+use Rattle.unifier_nodes.specs.Walks.{ReadsNode, TellsKind}
+use Rattle.unifier_nodes.specs.States.{charged, Charges, RepIn, Known, KnownBoth}
+use Rattle.unifier_nodes.specs.Promises.{StandBoth, Equals, LogIn, Binds, BindsSlot, UnifiesNodes}
+use Rattle.unifier.specs.Choices.{unify_as_functions}
 use Rattle.unifier_nodes.specs.declared.node.Node.{Node}
 use Rattle.unifier_nodes.specs.declared.node.Node.TheVariants.{Var, Primitive, Poly, ObjectMethod, Object, Function, Phi}
-use Rattle.unifier_nodes.specs.declared.state.State.{State}
+use Rattle.unifier_nodes.specs.declared.state.Unifier.{Unifier}
 use Rattle.unifier_nodes.specs.contracts.node.Node.{the_type}
-use Rattle.unifier_nodes.proofs.Nodes.{is_var}
 use Rattle.unifier_definition.proofs.Fuel.{unify_none, unify_unfold, bind_variable_to_none, bind_variable_to_unfold}
-use Rattle.unifier.proofs.Binding.{restated, keeps_still, keeps_charged, unifies_done, unifies_refused, unifies_as}
-use Rattle.unifier_nodes.proofs.Getting.{is_free, is_bound}
+use Rattle.unifier_nodes.proofs.Nodes.{is_var}
+use Rattle.unifier_nodes.proofs.Promised.{keeps_refl, room_charged, comes_as, promise_spent, promise_by, promise_step}
+use Rattle.unifier_nodes.proofs.Getting.{room_fits, is_free, bound_to}
 use Rattle.unifier_nodes.proofs.Equalities.{NoFunction, no_function}
 
 -- the tags of a node that is no Var, and of one that is neither a Var nor a Phi
@@ -96,48 +94,42 @@ low_var : {w : List ℕ} {lo top n : ℕ} {t : Ty} → n < lo → Rep w lo top n
 unfolding as_var
 low_var l q = rw (is_var l q)
 
--- what the definition does in each case
-module _ {left s : ℕ} (e : left ≡ suc s) (σ : Log) (t u : Ty) where
-  unify_is : unify σ left t u ≡ unify_body unify bind_variable_to σ s t u
-  unify_is = rw e (unify_unfold σ s t u)
-
-  when_same : type_equals t u ≡ true → unify σ left t u ≡ done σ s
+-- what the definition does in each case, after the charge
+module _ (σ : Log) (s : ℕ) (t u : Ty) where
+  when_same : type_equals t u ≡ true → unify_body unify bind_variable_to σ s t u ≡ done σ s
   unfolding unify_body
-  when_same p = unify_is ∙ rw (p, unify_body)
+  when_same p = rw (p, unify_body)
 
-  when_left : {x : ℕ} → type_equals t u ≡ false → as_var t ≡ some x → unify σ left t u ≡ bind_variable_to σ s t u
+  when_left : {x : ℕ} → type_equals t u ≡ false → as_var t ≡ some x → unify_body unify bind_variable_to σ s t u ≡ bind_variable_to σ s t u
   unfolding unify_body
-  when_left p q = unify_is ∙ rw (p, q, unify_body)
+  when_left p q = rw (p, q, unify_body)
 
-  when_right : {y : ℕ} → type_equals t u ≡ false → as_var t ≡ none → as_var u ≡ some y → unify σ left t u ≡ bind_variable_to σ s u t
+  when_right : {y : ℕ} → type_equals t u ≡ false → as_var t ≡ none → as_var u ≡ some y → unify_body unify bind_variable_to σ s t u ≡ bind_variable_to σ s u t
   unfolding unify_body
-  when_right p q r = unify_is ∙ rw (p, q, r, unify_body)
+  when_right p q r = rw (p, q, r, unify_body)
 
-  when_neither : type_equals t u ≡ false → as_var t ≡ none → as_var u ≡ none → unify σ left t u ≡ unify_as_functions σ s t u
+  when_neither : type_equals t u ≡ false → as_var t ≡ none → as_var u ≡ none → unify_body unify bind_variable_to σ s t u ≡ unify_as_functions σ s t u
   unfolding unify_body
-  when_neither p q r = unify_is ∙ rw (p, q, r, unify_body)
+  when_neither p q r = rw (p, q, r, unify_body)
 
-  bind_is : bind_variable_to σ left t u ≡ bind_body unify σ s t u
-  bind_is = rw e (bind_variable_to_unfold σ s t u)
-
-  when_no_var : as_var t ≡ none → bind_variable_to σ left t u ≡ done σ s
+  when_no_var : as_var t ≡ none → bind_body unify σ s t u ≡ done σ s
   unfolding bind_body
-  when_no_var p = bind_is ∙ rw (p, bind_body)
+  when_no_var p = rw (p, bind_body)
 
   module _ {x : ℕ} (v : t ≡ var x) where
-    slot_is : bind_variable_to σ left t u ≡ bind_slot unify σ s x u
+    slot_is : bind_body unify σ s t u ≡ bind_slot unify σ s x u
     unfolding bind_body as_var
-    slot_is = bind_is ∙ rw v
+    slot_is = rw v
 
-    when_poly : is_poly u ≡ true → bind_variable_to σ left t u ≡ done σ s
+    when_poly : is_poly u ≡ true → bind_body unify σ s t u ≡ done σ s
     unfolding bind_slot
     when_poly p = slot_is ∙ rw (p, bind_slot)
 
-    when_bound : {b : Ty} → is_poly u ≡ false → lookup σ x ≡ some b → bind_variable_to σ left t u ≡ unify σ s b u
+    when_bound : {b : Ty} → is_poly u ≡ false → lookup σ x ≡ some b → bind_body unify σ s t u ≡ unify σ s b u
     unfolding bind_slot
     when_bound p q = slot_is ∙ rw (p, q, bind_slot)
 
-    when_free : is_poly u ≡ false → lookup σ x ≡ none → bind_variable_to σ left t u ≡ bind_unbound unify σ s x u
+    when_free : is_poly u ≡ false → lookup σ x ≡ none → bind_body unify σ s t u ≡ bind_unbound unify σ s x u
     unfolding bind_slot
     when_free p q = slot_is ∙ rw (p, q, bind_slot)
 
@@ -174,186 +166,156 @@ module _ (σ : Log) (s : ℕ) (t u : Ty) where
       when_functions p = rw (e, e') (rw (kinds_same c c' p, unify_functions))
 
 -- no step is left
-pub unify_spent : (w : List ℕ) (lo : ℕ) (st : State) (a b : ℕ) → st.left ≡ 0 → UnifiesNodes w w lo st a b (restated st 0 13)
-unfolding number_of
-unify_spent w lo st a b z = record {
-  binds = record {
-    keeps = keeps_still w lo st 0 13 (omega arith);
-    means = λ σ t u good p q. unifies_refused (record { why = out_of_steps; log = σ; is = rw z (unify_none σ t u); by_number = refl; good = good });
-  };
-  charged = λ n. absurd (n z);
-}
+pub unify_spent : {u v : Unifier} {a b : ℕ} {why : Refusal} → Charges u v (Err why) → UnifiesNodes u a b v (Err why)
+unify_spent c = record { binds = promise_spent c (λ σ p. unify_none σ p.0 p.1); charged = λ n. absurd (n c.0) }
 
-pub bind_spent : (w : List ℕ) (lo : ℕ) (st : State) (a b : ℕ) → st.left ≡ 0 → Binds bind_variable_to w w lo st a b (restated st 0 13)
-unfolding number_of
-bind_spent w lo st a b z = record {
-  keeps = keeps_still w lo st 0 13 (omega arith);
-  means = λ σ t u good p q. unifies_refused (record { why = out_of_steps; log = σ; is = rw z (bind_variable_to_none σ t u); by_number = refl; good = good });
-}
+pub bind_spent : {u v : Unifier} {a b : ℕ} {why : Refusal} → Charges u v (Err why) → Binds bind_variable_to u a b v (Err why)
+bind_spent c = promise_spent c (λ σ p. bind_variable_to_none σ p.0 p.1)
 
--- `unify`
-module _ {w : List ℕ} {lo : ℕ} {st : State} {a b l : ℕ} (e : st.left ≡ suc l) (f : st.top ≤ length w) where
-  -- what is kept after the charge leaves the step paid
-  unify_charged : {w' : List ℕ} {r : State} → Keeps w w' lo (restated st l 0) r
-      → ((σ : Log) (t u : Ty) → Good w lo st.top σ → Rep w lo st.top a t → Rep w lo st.top b u → Unifies w' lo r (unify σ st.left t u))
-      → UnifiesNodes w w' lo st a b r
-  unify_charged k m = record {
-    binds = record { keeps = keeps_charged (omega arith) k; means = m };
-    charged = λ n. let p = k.paid.spent in omega arith;
-  }
-
-  pub unify_same : Equals w lo a b true → UnifiesNodes w w lo st a b (restated st l 0)
-  unify_same h =
-      unify_charged (keeps_still w lo (restated st l 0) l 0 (omega arith))
-      (λ σ t u good p q. unifies_done σ refl (when_same e σ t u (sym (h.is st.top t u f p q))) good)
-
-  module _ {w' : List ℕ} {r : State} (h : Equals w lo a b false) where
-    pub unify_left : a < lo → Binds bind_variable_to w w' lo (restated st l 0) a b r → UnifiesNodes w w' lo st a b r
-    unify_left lt k =
-        unify_charged k.keeps
-        (λ σ t u good p q. unifies_as (when_left e σ t u (sym (h.is st.top t u f p q)) (low_var lt p)) (k.means σ t u good p q))
-
-    pub unify_right : lo ≤ a → b < lo → Binds bind_variable_to w w' lo (restated st l 0) b a r → UnifiesNodes w w' lo st a b r
-    unify_right o lt k =
-        unify_charged k.keeps
-        (λ σ t u good p q. unifies_as (when_right e σ t u (sym (h.is st.top t u f p q)) (high_no_var o p) (low_var lt q)) (k.means σ u t good q p))
-
-    pub unify_neither : lo ≤ a → lo ≤ b → Binds unify_as_functions w w' lo (restated st l 0) a b r → UnifiesNodes w w' lo st a b r
-    unify_neither o o' k =
-        unify_charged k.keeps
-        (λ σ t u good p q. unifies_as (when_neither e σ t u (sym (h.is st.top t u f p q)) (high_no_var o p) (high_no_var o' q)) (k.means σ t u good p q))
-
--- `unify_functions`
-module _ {w : List ℕ} {lo : ℕ} {st : State} {a b : ℕ} (f : st.top ≤ length w) where
-  functions_stay : st.refused ≡ 0 → ((σ : Log) (t u : Ty) → Rep w lo st.top a t → Rep w lo st.top b u → unify_as_functions σ st.left t u ≡ done σ st.left)
-      → Binds unify_as_functions w w lo st a b st
-  functions_stay z h = record {
-    keeps = keeps_still w lo st st.left st.refused (omega arith);
-    means = λ σ t u good p q. unifies_done σ z (h σ t u p q) good;
-  }
-
-  pub functions_first : st.refused ≡ 0 → {r : Node} → NoFunction r → ReadsNode w lo a r → Binds unify_as_functions w w lo st a b st
-  functions_first z {r} k h = functions_stay z (λ σ t u p q. when_no_function σ st.left t u (no_function f r k h p))
-
-  module _ {i s m : ℕ} (h : ReadsNode w lo a (Function i s m)) where
-    pub functions_second : st.refused ≡ 0 → {r : Node} → NoFunction r → ReadsNode w lo b r → Binds unify_as_functions w w lo st a b st
-    functions_second z {r} k h' =
-        functions_stay z (λ σ t u p q. when_one_function σ st.left t u (h.shows st.top t f p).2 (no_function f r k h' q))
-
-    module _ {i' s' m' : ℕ} (h' : ReadsNode w lo b (Function i' s' m')) where
-      pub functions_differ : st.refused ≡ 0 → (i ≡ i' → ⊥) → Binds unify_as_functions w w lo st a b st
-      functions_differ z n =
-          functions_stay z (λ σ t u p q.
-          let x = h.shows st.top t f p in
-          let y = h'.shows st.top u f q in
-          when_flags_differ σ st.left t u x.2 y.2 (λ c. n (x.3 ∙ c ∙ sym y.3)))
-
-      pub functions_same : {w' : List ℕ} {r : State} → i ≡ i' → Binds unify w w' lo st m m' r → Binds unify_as_functions w w' lo st a b r
-      functions_same c k = record {
-        keeps = k.keeps;
-        means = λ σ t u good p q.
-            let x = h.shows st.top t f p in
-            let y = h'.shows st.top u f q in
-            unifies_as (when_functions σ st.left t u x.2 y.2 (sym x.3 ∙ c ∙ y.3)) (k.means σ x.1 y.1 good x.5 y.5);
-      }
-
--- the return types of two Functions
-pub known_returns : {w : List ℕ} {lo top a b i s m i' s' m' : ℕ} → top ≤ length w → ReadsNode w lo a (Function i s m) → ReadsNode w lo b (Function i' s' m')
-    → KnownBoth w lo top a b → KnownBoth w lo top m m'
-known_returns {top = top} f h h' k =
-    let x = h.shows top k.t f k.left in
-    let y = h'.shows top k.u f k.right in
-    record { σ = k.σ; t = x.1; u = y.1; good = k.good; left = x.5; right = y.5 }
-
--- `bind_variable_to`
-module _ {w : List ℕ} {lo : ℕ} {st : State} {v n l : ℕ} (e : st.left ≡ suc l) (f : st.top ≤ length w) where
-  pub bind_no_var : {r : Node} → NoVar r → ReadsNode w lo v r → Binds bind_variable_to w w lo st v n (restated st l 0)
-  bind_no_var {r} k h = record {
-    keeps = keeps_still w lo st l 0 (omega arith);
-    means = λ σ t u good p q. unifies_done σ refl (when_no_var e σ t u (no_var f r k h p)) good;
-  }
-
-  module _ {s : TypeId} (h : ReadsNode w lo v (Var s)) where
-    pub bind_poly : TellsKind w lo n 2 → Binds bind_variable_to w w lo st v n (restated st l 0)
-    unfolding is_poly
-    bind_poly k = record {
-      keeps = keeps_still w lo st l 0 (omega arith);
-      means = λ σ t u good p q.
-          unifies_done σ refl (when_poly e σ t u (var_read f h p).0 (eq-eqb (type_kind u) 2 (sym (k.is st.top u f q)))) good;
+-- a step was taken
+pub unify_charged : {u v x : Unifier} {a b : ℕ} (r : Result (Unit {0}) Refusal) → Charges u v (Ok tt) → Binds (unify_body unify bind_variable_to) v a b x r → UnifiesNodes u a b x r
+unify_charged {u} {v} {x} {a} {b} r c h =
+    let h' : Binds (unify_body unify bind_variable_to) (charged u) a b x r = subst (λ (y : Unifier). Binds (unify_body unify bind_variable_to) y a b x r) c.1 h in
+    record {
+      binds = promise_step r c.0 (λ y p. p) (λ σ s p. unify_unfold σ s p.0 p.1) h';
+      charged = λ n. let p = h'.keeps.paid.spent in omega arith;
     }
 
-    module _ {w' : List ℕ} {r : State} {kind : ℕ} (c : kind ≡ 2 → ⊥) (k : TellsKind w lo n kind) where
-      pub bind_bound : (at w s.0 ≡ 0 → ⊥) → Binds unify w w' lo (restated st l 0) (at w s.0 - 1) n r → Binds bind_variable_to w w' lo st v n r
-      unfolding is_poly
-      bind_bound z m = record {
-        keeps = keeps_charged (omega arith) m.keeps;
-        means = λ σ t u good p q.
-            let i = var_read f h p in
-            let x = is_bound z (good.binds s.0 i.1) in
-            unifies_as (when_bound e σ t u i.0 (ne_eqb (type_kind u) 2 (λ y. c (k.is st.top u f q ∙ y))) x.1) (m.means σ x.0 u good x.2 q);
-      }
+pub bind_charged : {u v x : Unifier} {a b : ℕ} (r : Result (Unit {0}) Refusal) → Charges u v (Ok tt) → Binds (bind_body unify) v a b x r → Binds bind_variable_to u a b x r
+bind_charged {u} {v} {x} {a} {b} r c h =
+    let h' : Binds (bind_body unify) (charged u) a b x r = subst (λ (y : Unifier). Binds (bind_body unify) y a b x r) c.1 h in
+    promise_step r c.0 (λ y p. p) (λ σ s p. bind_variable_to_unfold σ s p.0 p.1) h'
 
-      pub bind_free : at w s.0 ≡ 0 → BindsSlot (bind_unbound unify) w w' lo (restated st l 0) s.0 n r → Binds bind_variable_to w w' lo st v n r
+-- `unify`, after its charge
+module _ {v : Unifier} {a b : ℕ} (k : KnownBoth v a b) where
+  pub unify_same : Equals v.words.now v.lo a b true → Binds (unify_body unify bind_variable_to) v a b v (Ok tt)
+  unify_same h = promise_by (Ok tt) (keeps_refl v.lo v) (λ σ p good q. (σ, when_same σ v.left p.0 p.1 (sym (h.is v.top p.0 p.1 (room_fits k.room) q.0 q.1)), good))
+
+  module _ (h : Equals v.words.now v.lo a b false) where
+    unequal : {t u : Ty} → RepIn v a t → RepIn v b u → type_equals t u ≡ false
+    unequal {t} {u} p q = sym (h.is v.top t u (room_fits k.room) p q)
+
+    pub unify_left : {x : Unifier} (r : Result (Unit {0}) Refusal) → a < v.lo → Binds bind_variable_to v a b x r → Binds (unify_body unify bind_variable_to) v a b x r
+    unify_left {x} r lt m = promise_by r m.keeps (λ σ p good q. comes_as LogIn x r (when_left σ v.left p.0 p.1 (unequal q.0 q.1) (low_var lt q.0)) (m.means σ p good q))
+
+    pub unify_right : {x : Unifier} (r : Result (Unit {0}) Refusal) → v.lo ≤ a → b < v.lo → Binds bind_variable_to v b a x r → Binds (unify_body unify bind_variable_to) v a b x r
+    unify_right {x} r o lt m = promise_by r m.keeps (λ σ p good q.
+        comes_as LogIn x r (when_right σ v.left p.0 p.1 (unequal q.0 q.1) (high_no_var o q.0) (low_var lt q.1)) (m.means σ (p.1, p.0) good (q.1, q.0)))
+
+    pub unify_neither : {x : Unifier} (r : Result (Unit {0}) Refusal) → v.lo ≤ a → v.lo ≤ b → Binds unify_as_functions v a b x r → Binds (unify_body unify bind_variable_to) v a b x r
+    unify_neither {x} r o o' m = promise_by r m.keeps (λ σ p good q.
+        comes_as LogIn x r (when_neither σ v.left p.0 p.1 (unequal q.0 q.1) (high_no_var o q.0) (high_no_var o' q.1)) (m.means σ p good q))
+
+  -- `unify_functions`
+  functions_stay : ((σ : Log) (t u : Ty) → RepIn v a t → RepIn v b u → unify_as_functions σ v.left t u ≡ done σ v.left) → Binds unify_as_functions v a b v (Ok tt)
+  functions_stay h = promise_by (Ok tt) (keeps_refl v.lo v) (λ σ p good q. (σ, h σ p.0 p.1 q.0 q.1, good))
+
+  pub functions_first : {n : Node} → NoFunction n → ReadsNode v.words.now v.lo a n → Binds unify_as_functions v a b v (Ok tt)
+  functions_first {n} z h = functions_stay (λ σ t u p q. when_no_function σ v.left t u (no_function (room_fits k.room) n z h p))
+
+  module _ {i s m : ℕ} (h : ReadsNode v.words.now v.lo a (Function i s m)) where
+    pub functions_second : {n : Node} → NoFunction n → ReadsNode v.words.now v.lo b n → Binds unify_as_functions v a b v (Ok tt)
+    functions_second {n} z h' =
+        functions_stay (λ σ t u p q. when_one_function σ v.left t u (h.shows v.top t (room_fits k.room) p).2 (no_function (room_fits k.room) n z h' q))
+
+    module _ {i' s' m' : ℕ} (h' : ReadsNode v.words.now v.lo b (Function i' s' m')) where
+      pub functions_differ : (i ≡ i' → ⊥) → Binds unify_as_functions v a b v (Ok tt)
+      functions_differ n =
+          functions_stay (λ σ t u p q.
+          let x = h.shows v.top t (room_fits k.room) p in
+          let y = h'.shows v.top u (room_fits k.room) q in
+          when_flags_differ σ v.left t u x.2 y.2 (λ c. n (x.3 ∙ c ∙ sym y.3)))
+
+      pub functions_same : {x : Unifier} (r : Result (Unit {0}) Refusal) → i ≡ i' → Binds unify v m m' x r → Binds unify_as_functions v a b x r
+      functions_same {x} r c b = promise_by r b.keeps (λ σ p good q.
+          let y = h.shows v.top p.0 (room_fits k.room) q.0 in
+          let z = h'.shows v.top p.1 (room_fits k.room) q.1 in
+          comes_as LogIn x r (when_functions σ v.left p.0 p.1 y.2 z.2 (sym y.3 ∙ c ∙ z.3)) (b.means σ (y.1, z.1) good (y.5, z.5)))
+
+      -- the return types of two Functions
+      pub known_returns : KnownBoth v m m'
+      known_returns =
+          let y = h.shows v.top k.t (room_fits k.room) k.left in
+          let z = h'.shows v.top k.v (room_fits k.room) k.right in
+          record { room = k.room; σ = k.σ; t = y.1; v = z.1; good = k.good; left = y.5; right = z.5 }
+
+  -- what is known at each call
+  pub known_less : KnownBoth (charged v) a b
+  known_less = record { room = room_charged {u = v} refl k.room; σ = k.σ; t = k.t; v = k.v; good = k.good; left = k.left; right = k.right }
+
+  pub known_left : Known v a
+  known_left = record { room = k.room; σ = k.σ; t = k.t; good = k.good; rep = k.left }
+
+  pub known_right : Known v b
+  known_right = record { room = k.room; σ = k.σ; t = k.v; good = k.good; rep = k.right }
+
+  pub known_swap : KnownBoth v b a
+  known_swap = record { room = k.room; σ = k.σ; t = k.v; v = k.t; good = k.good; left = k.right; right = k.left }
+
+  pub stand_both : StandBoth v.words.now v.lo a b
+  stand_both = record { top = v.top; t = k.t; u = k.v; fits = room_fits k.room; left = k.left; right = k.right }
+
+-- `bind_variable_to`, after its charge
+module _ {v : Unifier} {a n : ℕ} (k : KnownBoth v a n) where
+  pub bind_no_var : {m : Node} → NoVar m → ReadsNode v.words.now v.lo a m → Binds (bind_body unify) v a n v (Ok tt)
+  bind_no_var {m} z h = promise_by (Ok tt) (keeps_refl v.lo v) (λ σ p good q. (σ, when_no_var σ v.left p.0 p.1 (no_var (room_fits k.room) m z h q.0), good))
+
+  module _ {s : TypeId} (h : ReadsNode v.words.now v.lo a (Var s)) where
+    bound_read : {t : Ty} → RepIn v a t → (t ≡ var s.0) × (s.0 < v.lo)
+    bound_read q = var_read (room_fits k.room) h q
+
+    pub bind_poly : TellsKind v.words.now v.lo n 2 → Binds (bind_body unify) v a n v (Ok tt)
+    unfolding is_poly
+    bind_poly c = promise_by (Ok tt) (keeps_refl v.lo v) (λ σ p good q.
+        (σ, when_poly σ v.left p.0 p.1 (bound_read q.0).0 (eq-eqb (type_kind p.1) 2 (sym (c.is v.top p.1 (room_fits k.room) q.1))), good))
+
+    module _ {kind : ℕ} (c : kind ≡ 2 → ⊥) (i : TellsKind v.words.now v.lo n kind) where
+      no_poly : {u : Ty} → RepIn v n u → is_poly u ≡ false
       unfolding is_poly
-      bind_free z m = record {
-        keeps = keeps_charged (omega arith) m.keeps;
-        means = λ σ t u good p q.
-            let i = var_read f h p in
-            unifies_as (when_free e σ t u i.0 (ne_eqb (type_kind u) 2 (λ y. c (k.is st.top u f q ∙ y))) (is_free z (good.binds s.0 i.1))) (m.means σ u good q);
-      }
+      no_poly {u} q = ne_eqb (type_kind u) 2 (λ y. c (i.is v.top u (room_fits k.room) q ∙ y))
+
+      pub bind_bound : {x : Unifier} {m : ℕ} (r : Result (Unit {0}) Refusal) → at v.words.now s.0 ≡ m + 1 → Binds unify v m n x r → Binds (bind_body unify) v a n x r
+      bind_bound {x} r z b = promise_by r b.keeps (λ σ p good q.
+          let w = bound_read q.0 in
+          let y = bound_to z (good.binds s.0 w.1) in
+          comes_as LogIn x r (when_bound σ v.left p.0 p.1 w.0 (no_poly q.1) y.1) (b.means σ (y.0, p.1) good (y.2, q.1)))
+
+      pub bind_free : {x : Unifier} (r : Result (Unit {0}) Refusal) → at v.words.now s.0 ≡ 0 → BindsSlot (bind_unbound unify) v s.0 n x r → Binds (bind_body unify) v a n x r
+      bind_free {x} r z b = promise_by r b.keeps (λ σ p good q.
+          let w = bound_read q.0 in
+          comes_as LogIn x r (when_free σ v.left p.0 p.1 w.0 (no_poly q.1) (is_free z (good.binds s.0 w.1))) (b.means σ p.1 good q.1))
+
+    -- what is known at its calls
+    pub var_low : s.0 < v.lo
+    var_low = (bound_read k.left).1
+
+    pub known_bound : {m : ℕ} → at v.words.now s.0 ≡ m + 1 → KnownBoth v m n
+    known_bound z =
+        let y = bound_to z (k.good.binds s.0 var_low) in
+        record { room = k.room; σ = k.σ; t = y.0; v = k.v; good = k.good; left = y.2; right = k.right }
 
 -- `bind_unbound`
-module _ {w w' : List ℕ} {lo : ℕ} {st : State} {slot n : ℕ} {r : State} (f : st.top ≤ length w) where
-  module _ {s : TypeId} (h : ReadsNode w lo n (Var s)) where
-    pub unbound_bound : slot < lo → (at w s.0 ≡ 0 → ⊥) → Binds unify w w' lo st slot (at w s.0 - 1) r → BindsSlot (bind_unbound unify) w w' lo st slot n r
-    unbound_bound lt z m = record {
-      keeps = m.keeps;
-      means = λ σ t good q.
-          let i = var_read f h q in
-          let x = is_bound z (good.binds s.0 i.1) in
-          unifies_as (when_to_bound σ st.left slot t i.0 x.1) (m.means σ (var slot) x.0 good (rep_var lt refl) x.2);
-    }
+module _ {v x : Unifier} {n : ℕ} (slot : ℕ) (r : Result (Unit {0}) Refusal) (k : Known v n) where
+  module _ {s : TypeId} (h : ReadsNode v.words.now v.lo n (Var s)) where
+    pub unbound_bound : {m : ℕ} → slot < v.lo → at v.words.now s.0 ≡ m + 1 → Binds unify v slot m x r → BindsSlot (bind_unbound unify) v slot n x r
+    unbound_bound lt z b = promise_by r b.keeps (λ σ t good q.
+        let w = var_read (room_fits k.room) h q in
+        let y = bound_to z (good.binds s.0 w.1) in
+        comes_as LogIn x r (when_to_bound σ v.left slot t w.0 y.1) (b.means σ (var slot, y.0) good (rep_var lt refl, y.2)))
 
-    pub unbound_free : at w s.0 ≡ 0 → BindsSlot bind_checked w w' lo st slot n r → BindsSlot (bind_unbound unify) w w' lo st slot n r
-    unbound_free z m = record {
-      keeps = m.keeps;
-      means = λ σ t good q.
-          let i = var_read f h q in
-          unifies_as (when_to_free σ st.left slot t i.0 (is_free z (good.binds s.0 i.1))) (m.means σ t good q);
-    }
+    pub unbound_free : at v.words.now s.0 ≡ 0 → BindsSlot bind_checked v slot n x r → BindsSlot (bind_unbound unify) v slot n x r
+    unbound_free z b = promise_by r b.keeps (λ σ t good q.
+        let w = var_read (room_fits k.room) h q in
+        comes_as LogIn x r (when_to_free σ v.left slot t w.0 (is_free z (good.binds s.0 w.1))) (b.means σ t good q))
 
-  pub unbound_plain : {k : Node} → Plain k → ReadsNode w lo n k → BindsSlot bind_checked w w' lo st slot n r → BindsSlot (bind_unbound unify) w w' lo st slot n r
-  unbound_plain {k} c h m = record {
-    keeps = m.keeps;
-    means = λ σ t good q.
-        let x = plain f k c h q in
-        unifies_as (when_plain σ st.left slot t x.0 x.1) (m.means σ t good q);
-  }
+  pub unbound_plain : {m : Node} → Plain m → ReadsNode v.words.now v.lo n m → BindsSlot bind_checked v slot n x r → BindsSlot (bind_unbound unify) v slot n x r
+  unbound_plain {m} c h b = promise_by r b.keeps (λ σ t good q.
+      let y = plain (room_fits k.room) m c h q in
+      comes_as LogIn x r (when_plain σ v.left slot t y.0 y.1) (b.means σ t good q))
 
--- what is known at each call
-module _ {w : List ℕ} {lo top a b : ℕ} (k : KnownBoth w lo top a b) where
-  pub known_left : Known w lo top a
-  known_left = record { σ = k.σ; t = k.t; good = k.good; rep = k.left }
-
-  pub known_right : Known w lo top b
-  known_right = record { σ = k.σ; t = k.u; good = k.good; rep = k.right }
-
-  pub known_swap : KnownBoth w lo top b a
-  known_swap = record { σ = k.σ; t = k.u; u = k.t; good = k.good; left = k.right; right = k.left }
-
-  pub stand_both : top ≤ length w → StandBoth w lo a b
-  stand_both f = record { top = top; t = k.t; u = k.u; fits = f; left = k.left; right = k.right }
-
-module _ {w : List ℕ} {lo top n : ℕ} (k : Known w lo top n) where
-  pub var_low : {s : TypeId} → top ≤ length w → ReadsNode w lo n (Var s) → s.0 < lo
-  var_low f h = (var_read f h k.rep).1
-
-  pub known_bound : {slot : ℕ} → slot < lo → (at w slot ≡ 0 → ⊥) → KnownBoth w lo top (at w slot - 1) n
-  known_bound {slot} lt z =
-      let x = is_bound z (k.good.binds slot lt) in
-      record { σ = k.σ; t = x.0; u = k.t; good = k.good; left = x.2; right = k.rep }
-
-  pub known_slot_bound : {x slot : ℕ} → x < lo → slot < lo → (at w slot ≡ 0 → ⊥) → KnownBoth w lo top x (at w slot - 1)
-  known_slot_bound {x} {slot} l lt z =
-      let y = is_bound z (k.good.binds slot lt) in
-      record { σ = k.σ; t = var x; u = y.0; good = k.good; left = rep_var l refl; right = y.2 }
+-- two variables, the second with a binding
+pub known_slot_bound : {v : Unifier} {n x m : ℕ} {s : TypeId} → Known v n → ReadsNode v.words.now v.lo n (Var s) → x < v.lo → at v.words.now s.0 ≡ m + 1 → KnownBoth v x m
+known_slot_bound {x = x} {s = s} k h l z =
+    let w = var_read (room_fits k.room) h k.rep in
+    let y = bound_to z (k.good.binds s.0 w.1) in
+    record { room = k.room; σ = k.σ; t = var x; v = y.0; good = k.good; left = rep_var l refl; right = y.2 }

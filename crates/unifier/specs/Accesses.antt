@@ -8,15 +8,15 @@ use Rattle.unifier_definition.specs.Property.{PropertyNameKind, Registry, resolv
 use Rattle.unifier_definition.specs.Resolve.{get}
 use Rattle.unifier_definition.specs.Unify.{unify, unify_found}
 use Rattle.unifier_definition.specs.Counts.{access_lookup}
-use Rattle.unifier_nodes.specs.Work.{Rep, Good, Room}
 use Rattle.unifier_nodes.specs.Walks.{TypesLaid}
-use Rattle.unifier_nodes.specs.Promises.{KnownBoth, Binds}
+use Rattle.unifier_nodes.specs.States.{GoodIn, RepIn, KnownBoth}
+use Rattle.unifier_nodes.specs.Promises.{Binds}
 use Rattle.unifier_properties.specs.Lookup.{registry_of, key_name, RegistryInside, KeyInside}
 use Rattle.unifier.specs.declared.access.Accessed.{Accessed}
 use Rattle.unifier.specs.declared.access.Places.{Places}
 use Rattle.unifier_properties.specs.declared.Key.{Key}
 use Rattle.unifier_counts.specs.Given.{given_by}
-use Rattle.unifier_nodes.specs.declared.state.State.{State}
+use Rattle.unifier_nodes.specs.declared.state.Unifier.{Unifier}
 
 -- `unify` of t with a Property of an object of type u, where it is a ref access
 abbrev pub unify_as_ref : Log → ℕ → Ty → Ty → Outcome Log
@@ -33,26 +33,25 @@ unify_access true reg name σ (suc s) t u = unify_as_ref σ s t u
 unify_access false reg name σ (suc s) t u = and_then (get σ s u) (λ o s₁. unify_by_name reg name σ s₁ t o)
 
 -- the Objects of USE_REF and REF_VALUE stand at theirs
-pub record RefsLaid (w : List ℕ) (top : ℕ) (p : Places) : Type 0 where
-  pub use_ref : Rep w p.lo top p.use_ref (object USE_REF)
-  pub ref_value : Rep w p.lo top p.ref_value (object REF_VALUE)
+pub record RefsLaid (u : Unifier) (p : Places) : Type 0 where
+  pub use_ref : RepIn u p.use_ref (object USE_REF)
+  pub ref_value : RepIn u p.ref_value (object REF_VALUE)
 
 -- what `unify_property` asks: a checked image and a key of it, room, and nodes that stand for what they should
-pub record AccessAsked (img bytes w : List ℕ) (p : Places) (st : State) (a obj : ℕ) (key : Key) : Type 0 where
+pub record AccessAsked (img bytes : List ℕ) (u : Unifier) (p : Places) (a obj : ℕ) (key : Key) : Type 0 where
   pub registry : RegistryInside img bytes
   pub key_inside : KeyInside img key
-  pub room : Room w st.top st.left st.stack
-  pub known : KnownBoth w p.lo st.top a obj
-  pub types : TypesLaid w p.lo st.top p.types img
-  pub refs : RefsLaid w st.top p
+  pub known : KnownBoth u a obj
+  pub types : TypesLaid u.words.now u.lo u.top p.types img
+  pub refs : RefsLaid u p
 
 -- the promise of `unify_found`
-pub record Finds (reg : Registry) (name : PropertyNameKind) (w w' : List ℕ) (lo : ℕ) (st : State) (a n : ℕ) (r : Accessed) : Type 0 where
-  pub binds : Binds (unify_by_name reg name) w w' lo st a n r.state
-  pub given : (o : Ty) → Rep w lo st.top n o → r.given ≡ given_by (some (resolve_property_type reg o name))
+pub record Finds (reg : Registry) (name : PropertyNameKind) (u : Unifier) (a n : ℕ) (u' : Unifier) (r : Accessed) : Type 0 where
+  pub binds : Binds (unify_by_name reg name) u a n u' r.outcome
+  pub given : (o : Ty) → RepIn u n o → r.given ≡ given_by (some (resolve_property_type reg o name))
 
 -- the promise of `unify_property`. "The unifier passes this up": what gave the type, in a refusal too
-pub record Accesses (img bytes w w' : List ℕ) (lo : ℕ) (st : State) (a obj : ℕ) (key : Key) (ref_like : Bool) (r : Accessed) : Type 0 where
-  pub binds : Binds (unify_access ref_like (registry_of img bytes) (key_name img bytes key)) w w' lo st a obj r.state
-  pub given : (σ : Log) (u : Ty) → Good w lo st.top σ → Rep w lo st.top obj u
-      → r.given ≡ given_by (access_lookup ref_like (registry_of img bytes) (key_name img bytes key) σ st.left u)
+pub record Accesses (img bytes : List ℕ) (u : Unifier) (a obj : ℕ) (key : Key) (ref_like : Bool) (u' : Unifier) (r : Accessed) : Type 0 where
+  pub binds : Binds (unify_access ref_like (registry_of img bytes) (key_name img bytes key)) u a obj u' r.outcome
+  pub given : (σ : Log) (t : Ty) → GoodIn u σ → RepIn u obj t
+      → r.given ≡ given_by (access_lookup ref_like (registry_of img bytes) (key_name img bytes key) σ u.left t)

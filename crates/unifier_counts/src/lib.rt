@@ -27,14 +27,16 @@ pub struct Counts {
 }
 
 // What gave the type of a lookup's answer.
-pub fn given_by(found: Lookup) -> GivenBy
-    ensures { result ≡ given_by_answer found }
-{
-    match found {
-        Lookup::Exact(_) => GivenBy::ExactName,
-        Lookup::Star(_) => GivenBy::StarEntry,
-        Lookup::Hook(_) => GivenBy::HookRule,
-        Lookup::Nothing => GivenBy::NoRule,
+impl From<Lookup> for GivenBy {
+    ghost from_gives = { λ found by. by ≡ given_by_answer found };
+
+    fn from(found: Lookup) -> GivenBy {
+        match found {
+            Lookup::Exact(_) => GivenBy::ExactName,
+            Lookup::Star(_) => GivenBy::StarEntry,
+            Lookup::Hook(_) => GivenBy::HookRule,
+            Lookup::Nothing => GivenBy::NoRule,
+        }
     }
 }
 

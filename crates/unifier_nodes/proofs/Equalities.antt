@@ -18,8 +18,7 @@ use Rattle.unifier_nodes.specs.Walks.{Stands, ReadsNode, TellsKind}
 use Rattle.unifier_nodes.specs.Promises.{StandBoth, Equals, Leaves, TellsShape, Unites, UnitesWith}
 use Rattle.unifier_nodes.specs.declared.node.Node.{Node}
 use Rattle.unifier_nodes.specs.declared.node.Node.TheVariants.{Var, Primitive, Poly, ObjectMethod, Object, Function, Phi}
-use Rattle.unifier_nodes.specs.declared.node.Candidate.{Candidate}
-use Rattle.unifier_nodes.specs.declared.node.Candidate.TheVariants.{Found, Nothing}
+use Rattle.std.specs.Prelude.{Option as Maybe, Some, None}
 use Rattle.unifier_nodes.specs.contracts.node.Node.{the_type}
 use Rattle.unifier_definition.proofs.Outcomes.{by_bool}
 use Rattle.unifier_nodes.proofs.Nodes.{function_kinds}
@@ -241,29 +240,29 @@ unfolding is_primitive
 no_primitive {top = top} {t = t} K z f q = ne_eqb (type_kind t) 1 (λ e. z (K.is top t f q ∙ e))
 
 module _ {w : List ℕ} {lo readonly other k : ℕ} (K : TellsKind w lo other k) where
-  pub unites_primitive : k ≡ 1 → UnitesWith w lo readonly other (Found readonly)
+  pub unites_primitive : k ≡ 1 → UnitesWith w lo readonly other (Some readonly)
   unfolding union_with is_primitive
   unites_primitive z = record { is = λ top t u f p q. (t, rw (eq-eqb (type_kind u) 1 (sym (K.is top u f q) ∙ z), union_with), p) }
 
   module _ (z : k ≡ 1 → ⊥) where
-    pub unites_array : TellsShape w lo other 4 true → UnitesWith w lo readonly other (Found other)
+    pub unites_array : TellsShape w lo other 4 true → UnitesWith w lo readonly other (Some other)
     unfolding union_with
     unites_array h = record { is = λ top t u f p q. (u, rw (no_primitive K z f q, sym (h.is top u f q), union_with), q) }
 
-    pub unites_nothing : TellsShape w lo other 4 false → UnitesWith w lo readonly other Nothing
+    pub unites_nothing : TellsShape w lo other 4 false → UnitesWith w lo readonly other None
     unfolding union_with
     unites_nothing h = record { is = λ top t u f p q. rw (no_primitive K z f q, sym (h.is top u f q), union_with) }
 
 -- `try_union_types`
 module _ {w : List ℕ} {lo a b : ℕ} where
-  pub unites_left : {r : Candidate} → TellsShape w lo a 8 true → UnitesWith w lo a b r → Unites w lo a b r
+  pub unites_left : {r : Maybe ℕ} → TellsShape w lo a 8 true → UnitesWith w lo a b r → Unites w lo a b r
   unfolding try_union_types
   unites_left h g = record { is = λ top t u f p q. rw (sym (h.is top t f p), try_union_types) (g.is top t u f p q) }
 
-  pub unites_right : {r : Candidate} → TellsShape w lo a 8 false → TellsShape w lo b 8 true → UnitesWith w lo b a r → Unites w lo a b r
+  pub unites_right : {r : Maybe ℕ} → TellsShape w lo a 8 false → TellsShape w lo b 8 true → UnitesWith w lo b a r → Unites w lo a b r
   unfolding try_union_types
   unites_right h h' g = record { is = λ top t u f p q. rw (sym (h.is top t f p), sym (h'.is top u f q), try_union_types) (g.is top u t f q p) }
 
-  pub unites_none : TellsShape w lo a 8 false → TellsShape w lo b 8 false → Unites w lo a b Nothing
+  pub unites_none : TellsShape w lo a 8 false → TellsShape w lo b 8 false → Unites w lo a b None
   unfolding try_union_types
   unites_none h h' = record { is = λ top t u f p q. rw (sym (h.is top t f p), sym (h'.is top u f q), try_union_types) }

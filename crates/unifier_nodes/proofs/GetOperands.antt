@@ -1,20 +1,18 @@
 -- Operands one after another, and the loop of `get` over them: what holds after i of them, and what it gives at the end. Assumes nothing.
-use mathlib.Core.Path.{◌≡◌, refl, sym, ap, ◌∙◌, subst}
-use mathlib.Core.List.{List}
-use Prim.Native.Nat.{ℕ, suc, ◌+◌, ◌*◌, ◌≤◌, ◌<◌}
-use native.Mathlib.Omega.{arith}
-use lib.ListN.{length, set, length-set}
+use Rattle.std.proofs.Common.{◌≡◌, refl, sym, ap, ◌∙◌, subst, ℕ, suc, ◌+◌, ◌*◌, ◌-◌, ◌≤◌, ◌<◌, arith, List, set, Ok, Err}
+use Rattle.std.proofs.Math.ListN.{length-set}
+use Rattle.image.specs.declared.refusal.Refusal.{Refusal}
 use Rattle.image.specs.Ty.{Ty, Tys, nil, cons, count_of}
 use Rattle.unifier_definition.specs.Log.{Log}
-use Rattle.unifier_definition.specs.Outcome.{Refusal, Outcome, done, refused, and_then}
+use Rattle.unifier_definition.specs.Outcome.{Refusal as Due, Outcome, done, refused, and_then}
 use Rattle.unifier_definition.specs.Resolve.{get_operands, get}
-use Rattle.unifier_nodes.specs.Work.{at, Rep, Reps, reps_nil, reps_cons, Good, Room, Frame}
-use Rattle.unifier_nodes.specs.Walks.{Known, KnownAll}
-use Rattle.unifier_nodes.specs.Promises.{Gives, GivesAll}
-use Rattle.unifier_nodes.specs.declared.state.Got.{Got}
-use Rattle.unifier_nodes.specs.declared.state.State.{State}
+use Rattle.unifier_nodes.specs.Work.{at, Rep, Reps, reps_nil, reps_cons}
+use Rattle.unifier_nodes.specs.States.{GoodIn, RepIn, RoomIn, Known, KnownAll, Keeps, with_words}
+use Rattle.unifier_nodes.specs.Promises.{Gives, GivenAll, GivesAll}
+use Rattle.unifier_nodes.specs.declared.state.Unifier.{Unifier}
 use Rattle.unifier_nodes.proofs.Words.{at_same, at_other}
-use Rattle.unifier_nodes.proofs.Frames.{rep_same, reps_same, rep_low, good_same, frame_refl, frame_trans}
+use Rattle.unifier_nodes.proofs.Frames.{rep_same, reps_same, rep_low, good_same, frame_trans}
+use Rattle.unifier_nodes.proofs.Promised.{keeps_refl}
 
 -- operands with one more at the end, and with others after them
 abbrev pub snoc : Tys → Ty → Tys
@@ -65,44 +63,76 @@ module _ (g : ℕ → Ty → Outcome Ty) (rs : Tys) (l : ℕ) {t : Ty} (ts : Tys
   operand_done {u} {l'} e =
       ap (λ o. prepend rs (and_then o (λ t' s₁. and_then (get_operands g s₁ ts) (λ ts' s₂. done (cons t' ts') s₂)))) e ∙ prepend_snoc rs u (get_operands g l' ts)
 
-  operand_refused : {why : Refusal} {l' : ℕ} {σ : Log} → g l t ≡ refused why l' σ → prepend rs (get_operands g l (cons t ts)) ≡ refused why l' σ
+  operand_refused : {why : Due} {l' : ℕ} {σ : Log} → g l t ≡ refused why l' σ → prepend rs (get_operands g l (cons t ts)) ≡ refused why l' σ
   unfolding prepend get_operands and_then
   operand_refused e = ap (λ o. prepend rs (and_then o (λ t' s₁. and_then (get_operands g s₁ ts) (λ ts' s₂. done (cons t' ts') s₂)))) e
 
+-- with i operands more in hand; and the same taken back
+abbrev pub in_hand : Unifier → ℕ → Unifier
+in_hand u i = record u { stack = u.stack + i }
+
+abbrev pub hand_back : Unifier → ℕ → Unifier
+hand_back u i = record u { stack = u.stack - i }
+
+-- a call with i operands more in hand, after steps that paid for them
+pub keeps_hand : {from : ℕ} {u x y : Unifier} (i : ℕ) → x.left + i ≤ u.left → Keeps from u x → Keeps from (in_hand x i) y → Keeps from u (hand_back y i)
+keeps_hand i few a b =
+    let p = a.paid.fewer in
+    let q = a.paid.spent in
+    let r = b.paid.fewer in
+    let s = b.paid.spent in
+    let z = a.stack in
+    let e = b.stack in
+    record {
+      same = b.same ∙ a.same;
+      lo = b.lo ∙ a.lo;
+      stack = omega arith;
+      frame = frame_trans (omega arith) (omega arith) a.frame b.frame;
+      paid = record { fewer = omega arith; spent = omega arith };
+    }
+
+pub room_hand : {from : ℕ} {u x : Unifier} (i : ℕ) → Keeps from u x → x.left + i ≤ u.left → x.top + 4 * x.left + i ≤ u.top + 4 * u.left → RoomIn u → RoomIn (in_hand x i)
+room_hand i k few spare room =
+    let len = k.frame.len in
+    let st = k.stack in
+    let hp = room.heap in
+    let hd = room.hand in
+    let sm = room.small in
+    record { heap = omega arith; hand = omega arith; small = omega arith }
+
 -- of the operands, the results of those that are done, and those that are to come
-pub record Part (w₀ w : List ℕ) (lo left₀ top₀ stack a c last : ℕ) (σ : Log) (ts : Tys) (left top i : ℕ) : Type 0 where
+pub record Part (u x : Unifier) (a c last : ℕ) (σ : Log) (ts : Tys) (i : ℕ) : Type 0 where
   pub rs : Tys
   pub us : Tys
-  pub so_far : get_operands (get σ) left₀ ts ≡ prepend rs (get_operands (get σ) left us)
+  pub so_far : get_operands (get σ) u.left ts ≡ prepend rs (get_operands (get σ) x.left us)
   pub did : count_of rs ≡ i
   pub to_come : c ≡ i + count_of us
-  pub results : Reps w lo top top (stack + i) stack rs
-  pub operands : Reps w₀ lo top₀ last top₀ (a + i) us
+  pub results : Reps x.words.now x.lo x.top x.top (x.stack + i) x.stack rs
+  pub operands : Reps u.words.now u.lo u.top last u.top (a + i) us
 
 -- the loop after i operands
-pub record Walking (w₀ w : List ℕ) (lo left₀ top₀ stack a c left top i : ℕ) : Type 0 where
+pub record Walking (u x : Unifier) (a c i : ℕ) : Type 0 where
   pub upto : i ≤ c
-  pub frame : Frame w₀ w 0 top₀ top stack left₀
-  pub fewer : left + i ≤ left₀
-  pub spare : top + 4 * left + i ≤ top₀ + 4 * left₀
-  pub means : (last : ℕ) (σ : Log) (ts : Tys) → Good w₀ lo top₀ σ → Reps w₀ lo top₀ last top₀ a ts → c ≡ count_of ts
-      → Part w₀ w lo left₀ top₀ stack a c last σ ts left top i
+  pub keeps : Keeps 0 u x
+  pub fewer : x.left + i ≤ u.left
+  pub spare : x.top + 4 * x.left + i ≤ u.top + 4 * u.left
+  pub means : (σ : Log) (ts : Tys) → GoodIn u σ → (p : GivenAll a c u ts) → Part u x a c p.0 σ ts i
 
-pub walking_none : (w : List ℕ) (lo : ℕ) (st : State) (a c : ℕ) → Walking w w lo st.left st.top st.stack a c st.left st.top 0
+pub walking_none : (u : Unifier) (a c : ℕ) → Walking u u a c 0
 unfolding count_of
-walking_none w lo st a c = record {
+walking_none u a c = record {
   upto = omega arith;
-  frame = frame_refl w 0 st.top st.stack st.left;
+  keeps = keeps_refl 0 u;
   fewer = omega arith;
   spare = omega arith;
-  means = λ last σ ts g r e. record {
+  means = λ σ ts g p. record {
     rs = nil;
     us = ts;
-    so_far = sym (prepend_nil (get_operands (get σ) st.left ts));
+    so_far = sym (prepend_nil (get_operands (get σ) u.left ts));
     did = refl;
-    to_come = omega arith;
+    to_come = let e = p.2 in omega arith;
     results = reps_nil;
-    operands = subst (λ (x : ℕ). Reps w lo st.top last st.top x ts) (omega arith) r;
+    operands = subst (λ (x : ℕ). Reps u.words.now u.lo u.top p.0 u.top x ts) (omega arith) p.1;
   };
 }
 
@@ -121,130 +151,109 @@ next lt reps_nil = absurd (omega arith)
 next {w} {lo} {top} lt (reps_cons {t = t} {ts = ts} o h m b r rs) =
     record { u = t; vs = ts; is = refl; rep = subst (λ (x : ℕ). Rep w lo top x t) (sym m) r; inside = h; after = rs }
 
--- the state of the call for the next operand
-abbrev pub turn : State → (left top i : ℕ) → State
-turn st left top i = record { left = left; top = top; stack = st.stack + i; refused = 0 }
-
-module _ {w₀ w : List ℕ} {lo : ℕ} (st : State) {a c left top i : ℕ} (W : Walking w₀ w lo st.left st.top st.stack a c left top i) (lt : i < c) where
-  here : {last : ℕ} {σ : Log} {ts : Tys} (P : Part w₀ w lo st.left st.top st.stack a c last σ ts left top i) → Next w₀ lo st.top last (a + i) P.us
+module _ {u x : Unifier} {a c i : ℕ} (W : Walking u x a c i) (lt : i < c) where
+  here : {last : ℕ} {σ : Log} {ts : Tys} (P : Part u x a c last σ ts i) → Next u.words.now u.lo u.top last (a + i) P.us
   here P = let e = P.to_come in next (omega arith) P.operands
 
-  there : {last p : ℕ} {us : Tys} (N : Next w₀ lo st.top last p us) → Rep w lo top (at w p) N.u
+  there : {last p : ℕ} {us : Tys} (N : Next u.words.now u.lo u.top last p us) → RepIn x (at x.words.now p) N.u
   there {p = p} N =
-      let f = W.frame in
-      rw (f.below p (omega arith) N.inside) (rep_same w top f.grows (λ k o b. f.below k (omega arith) b) N.rep)
+      let f = W.keeps.frame in
+      rw (W.keeps.lo, f.below p (omega arith) N.inside) (rep_same x.words.now x.top f.grows (λ k o b. f.below k (omega arith) b) N.rep)
 
-  still : {σ : Log} → Good w₀ lo st.top σ → Good w lo top σ
-  still g = let f = W.frame in good_same w top f.grows f.below g
+  still : {σ : Log} → GoodIn u σ → GoodIn x σ
+  still g = let f = W.keeps.frame in rw W.keeps.lo (good_same x.words.now x.top f.grows f.below g)
 
   -- a refusal at this operand
-  pub walking_refused : {u : List ℕ} {g : Got} → (g.refused ≡ 0 → ⊥) → Gives w u lo (turn st left top i) (at w (a + i)) g → GivesAll w₀ u lo st a c g
-  walking_refused f h =
-      let x = W.fewer in
-      let y = W.spare in
-      let p = h.paid.fewer in
-      let q = h.paid.spent in
-      record {
-        frame = frame_trans (omega arith) (omega arith) W.frame h.frame;
-        paid = record { fewer = omega arith; spent = omega arith };
-        made = λ e. absurd (f e);
-        spare = λ e. absurd (f e);
-        means = λ last σ ts g r e.
-            let P = W.means last σ ts g r e in
-            let N = here P in
-            let R = (h.means σ N.u (still g) (there N)).ended f in
-            record {
-              finished = λ e. absurd (f e);
-              ended = λ e. record {
-                why = R.why;
-                log = R.log;
-                is = P.so_far ∙ ap (λ (y : Tys). prepend P.rs (get_operands (get σ) left y)) N.is ∙ operand_refused (get σ) P.rs left N.vs R.is;
-                by_number = R.by_number;
-                good = R.good;
-              };
-            };
-      }
+  pub walking_refused : {y : Unifier} {why : Refusal} → Gives (in_hand x i) (at x.words.now (a + i)) y (Err why) → GivesAll u a c (hand_back y i) (Err why)
+  walking_refused h = record {
+    keeps = keeps_hand i W.fewer W.keeps h.keeps;
+    spare = tt;
+    means = λ σ ts g p.
+        let P = W.means σ ts g p in
+        let N = here P in
+        let R = h.means σ N.u (still g) (there N) in
+        record {
+          why = R.why;
+          log = R.log;
+          is = P.so_far ∙ ap (λ (y : Tys). prepend P.rs (get_operands (get σ) x.left y)) N.is ∙ operand_refused (get σ) P.rs x.left N.vs R.is;
+          by_number = R.by_number;
+          good = R.good;
+        };
+  }
 
   -- one more operand
-  pub walking_more : {u : List ℕ} {g : Got} → g.refused ≡ 0 → Room w₀ st.top st.left st.stack → Gives w u lo (turn st left top i) (at w (a + i)) g
-      → Walking w₀ (set u (st.stack + i) g.node) lo st.left st.top st.stack a c g.left g.top (i + 1)
+  pub walking_more : {y : Unifier} {m : ℕ} → RoomIn u → Gives (in_hand x i) (at x.words.now (a + i)) y (Ok m)
+      → Walking u (with_words (hand_back y i) (set y.words.now (y.stack - i + i) m)) a c (i + 1)
   unfolding count_of
-  walking_more {u} {g} f room h =
-      let v : List ℕ = set u (st.stack + i) g.node in
-      let F = W.frame in
-      let H = h.frame in
+  walking_more {y} {m} room h =
+      let at_hand : ℕ = y.stack - i + i in
+      let v : List ℕ = set y.words.now at_hand m in
+      let K = keeps_hand i W.fewer W.keeps h.keeps in
+      let T = K.frame in
+      let F = W.keeps.frame in
+      let H = h.keeps.frame in
       let g₁ = F.grows in
       let g₂ = H.grows in
       let len₁ = F.len in
       let len₂ = H.len in
+      let st₁ = W.keeps.stack in
+      let st₂ = h.keeps.stack in
       let few = W.fewer in
-      let few' = h.fewer f in
+      let few' = h.spare.0 in
       let sp = W.spare in
-      let sp' = h.spare f in
+      let sp' = h.spare.1 in
       let hp = room.heap in
       let hd = room.hand in
-      let keep : (k : ℕ) → (k ≡ st.stack + i → ⊥) → at v k ≡ at u k = λ k ne. at_other u (st.stack + i) k g.node ne in
-      let T = frame_trans {left = st.left} (omega arith) (omega arith) F H in
+      let keep : (k : ℕ) → (k ≡ at_hand → ⊥) → at v k ≡ at y.words.now k = λ k ne. at_other y.words.now at_hand k m ne in
       record {
         upto = omega arith;
-        frame = record {
-          len = length-set u (st.stack + i) g.node ∙ T.len;
-          grows = T.grows;
-          below = λ k o b. keep k (omega arith) ∙ T.below k o b;
-          above = λ k o b. keep k (omega arith) ∙ T.above k o b;
-          beyond = λ k o. keep k (omega arith) ∙ T.beyond k o;
+        keeps = record {
+          same = K.same;
+          lo = K.lo;
+          stack = K.stack;
+          frame = record {
+            len = length-set y.words.now at_hand m ∙ T.len;
+            grows = T.grows;
+            below = λ k o b. keep k (omega arith) ∙ T.below k o b;
+            above = λ k o b. keep k (omega arith) ∙ T.above k o b;
+            beyond = λ k o. keep k (omega arith) ∙ T.beyond k o;
+          };
+          paid = K.paid;
         };
         fewer = omega arith;
         spare = omega arith;
-        means = λ last σ ts G r e.
-            let P = W.means last σ ts G r e in
+        means = λ σ ts G p.
+            let P = W.means σ ts G p in
             let N = here P in
-            let B = (h.means σ N.u (still G) (there N)).finished f in
+            let B = h.means σ N.u (still G) (there N) in
             let did = P.did in
             let lo≤ = G.nodes in
+            let lo₁ = W.keeps.lo in
+            let lo₂ = h.keeps.lo in
             let tc = P.to_come in
             let cnt : count_of P.us ≡ suc (count_of N.vs) = ap count_of N.is in
             let low = rep_low (omega arith) B.2 in
             record {
               rs = snoc P.rs B.0;
               us = N.vs;
-              so_far = P.so_far ∙ ap (λ (y : Tys). prepend P.rs (get_operands (get σ) left y)) N.is ∙ operand_done (get σ) P.rs left N.vs B.1;
+              so_far = P.so_far ∙ ap (λ (y : Tys). prepend P.rs (get_operands (get σ) x.left y)) N.is ∙ operand_done (get σ) P.rs x.left N.vs B.1;
               did = count_snoc P.rs B.0 ∙ omega arith;
               to_come = omega arith;
-              results = reps_snoc (st.stack + i) g.node (omega arith) (omega arith) (omega arith) (at_same u (st.stack + i) g.node (omega arith)) low
-                  (rep_same v g.top (omega arith) (λ k o b. keep k (omega arith)) B.2)
-                  (reps_same v g.top g₂ (λ k o b. keep k (omega arith) ∙ H.below k (omega arith) b) st.stack g.top (st.stack + (i + 1)) (omega arith) (omega arith) (omega arith)
-                  (λ k from o b. keep k (omega arith) ∙ H.above k (omega arith) b) P.results);
-              operands = subst (λ (y : ℕ). Reps w₀ lo st.top last st.top y N.vs) (omega arith) N.after;
+              results = reps_snoc at_hand m (omega arith) (omega arith) (omega arith) (at_same y.words.now at_hand m (omega arith)) low
+                  (rep_same v y.top (omega arith) (λ k o b. keep k (omega arith)) B.2)
+                  (rw lo₂ (reps_same v y.top g₂ (λ k o b. keep k (omega arith) ∙ H.below k (omega arith) b) x.stack y.top (y.stack - i + (i + 1)) (omega arith) (omega arith) (omega arith)
+                  (λ k from o b. keep k (omega arith) ∙ H.above k (omega arith) (omega arith)) (subst (λ (q : ℕ). Reps x.words.now x.lo x.top x.top (x.stack + i) q P.rs) (omega arith) P.results)));
+              operands = subst (λ (y : ℕ). Reps u.words.now u.lo u.top p.0 u.top y N.vs) (omega arith) N.after;
             };
       }
 
-  pub walking_room : Room w₀ st.top st.left st.stack → Room w top left (st.stack + i)
-  walking_room room =
-      let few = W.fewer in
-      let sp = W.spare in
-      let len = W.frame.len in
-      let hp = room.heap in
-      let hd = room.hand in
-      let sm = room.small in
-      record { heap = omega arith; hand = omega arith; small = omega arith }
-
-  pub walking_hand : {u : List ℕ} {g : Got} → g.refused ≡ 0 → Room w₀ st.top st.left st.stack → Gives w u lo (turn st left top i) (at w (a + i)) g → st.stack + i < length u
-  walking_hand f room h =
-      let x = W.fewer in
-      let y = h.fewer f in
-      let z = room.hand in
-      let l = W.frame.len in
-      let m = h.frame.len in
-      omega arith
-
-  pub walking_known : KnownAll w₀ lo st.top a c → Known w lo top (at w (a + i))
+  pub walking_known : KnownAll u a c → Known (in_hand x i) (at x.words.now (a + i))
   walking_known k =
-      let N = here (W.means k.last k.σ k.ts k.good k.reps k.many) in
-      record { σ = k.σ; t = N.u; good = still k.good; rep = there N }
+      let N = here (W.means k.σ k.ts k.good (k.last, k.reps, k.many)) in
+      record { room = room_hand i W.keeps W.fewer W.spare k.room; σ = k.σ; t = N.u; good = still k.good; rep = there N }
 
-  pub walking_word : KnownAll w₀ lo st.top a c → a + i < st.top
-  walking_word k = (here (W.means k.last k.σ k.ts k.good k.reps k.many)).inside
+  pub walking_word : KnownAll u a c → a + i < u.top
+  walking_word k = (here (W.means k.σ k.ts k.good (k.last, k.reps, k.many))).inside
 
 -- nothing is to come
 pub none_left : (us : Tys) → count_of us ≡ 0 → us ≡ nil
@@ -252,30 +261,22 @@ unfolding count_of
 none_left nil e = refl
 none_left (cons u us) e = absurd (omega arith)
 
-pub walking_done : {w₀ w : List ℕ} {lo : ℕ} (st : State) {a c left top i : ℕ} → Walking w₀ w lo st.left st.top st.stack a c left top i → c ≤ i
-    → GivesAll w₀ w lo st a c (record { node = c; left = left; top = top; refused = 0 })
+pub walking_done : {u x : Unifier} {a c i : ℕ} → Walking u x a c i → c ≤ i → GivesAll u a c x (Ok c)
 unfolding prepend get_operands and_then
-walking_done {w₀} {w} {lo} st {a} {c} {left} {top} {i} W ge =
+walking_done {u} {x} {a} {c} {i} W ge =
     let up = W.upto in
     let few = W.fewer in
     let sp = W.spare in
     let q : i ≡ c = omega arith in
     record {
-      frame = W.frame;
-      paid = record { fewer = omega arith; spent = omega arith };
-      made = λ e. omega arith;
-      spare = λ e. omega arith;
-      means = λ last σ ts g r e.
-          let P = W.means last σ ts g r e in
+      keeps = W.keeps;
+      spare = (omega arith, omega arith);
+      means = λ σ ts g p.
+          let P = W.means σ ts g p in
           let did = P.did in
-          let tc = P.to_come in
-          record {
-            finished = λ z. (
-              P.rs,
-              P.so_far ∙ ap (λ (y : Tys). prepend P.rs (get_operands (get σ) left y)) (none_left P.us (omega arith)) ∙ ap (λ (y : Tys). done y left) (append-nil P.rs),
-              omega arith,
-              subst (λ (y : ℕ). Reps w lo top top (st.stack + y) st.stack P.rs) q P.results,
-            );
-            ended = λ z. absurd (z refl);
-          };
+          let tc = P.to_come in (
+            P.rs,
+            P.so_far ∙ ap (λ (y : Tys). prepend P.rs (get_operands (get σ) x.left y)) (none_left P.us (omega arith)) ∙ ap (λ (y : Tys). done y x.left) (append-nil P.rs),
+            (omega arith, subst (λ (y : ℕ). Reps x.words.now x.lo x.top x.top (x.stack + y) x.stack P.rs) q P.results),
+          );
     }

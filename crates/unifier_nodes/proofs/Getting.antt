@@ -1,33 +1,28 @@
--- What walks over nodes share (nodes read, steps charged, refusals handed on), and what `get` gives at each way that it returns. Assumes nothing.
-use mathlib.Core.Path.{◌≡◌, refl, ap, ◌∙◌, subst}
-use mathlib.Core.List.{List}
+-- What walks over nodes share (nodes read, bindings, operands copied, nodes made), and what `get` gives at each way that it returns. Assumes nothing.
+use Rattle.std.proofs.Common.{◌≡◌, refl, sym, ap, ◌∙◌, subst, ℕ, zero, suc, ◌+◌, ◌*◌, ◌-◌, ◌≤◌, ◌<◌, arith, List, length, Result, Ok, Err, ◌⊎◌, inl, inr}
 use mathlib.Core.Option.{Option, none, some}
-use Prim.Native.Nat.{ℕ, zero, suc, ◌+◌, ◌-◌, ◌≤◌, ◌<◌}
-use native.Mathlib.Omega.{arith}
-use lib.ListN.{length}
+use Rattle.image.specs.declared.refusal.Refusal.{Refusal}
+use Rattle.image.specs.declared.TypeId.{TypeId}
 use Rattle.image.specs.Ty.{Ty, var, prim, poly, method, object, func, phi, Tys, count_of}
 use Rattle.unifier_definition.specs.Log.{Log, lookup}
-use Rattle.unifier_definition.specs.Outcome.{Outcome, done, out_of_steps, number_of, and_then}
+use Rattle.unifier_definition.specs.Outcome.{Outcome, done, and_then}
 use Rattle.unifier_definition.specs.Resolve.{get_body, get}
-use Rattle.unifier_nodes.specs.Work.{at, Rep, Reps, reps_nil, reps_cons, rep_func, rep_phi, Bound, unbound, bound, Good, Room, Frame, Paid}
-use Rattle.unifier_nodes.specs.Walks.{Stands, ReadsNode, Known, KnownAll, Refuses, RoomFor, MadeFunction, MadePhi}
-use Rattle.unifier_nodes.specs.Promises.{Gives, GivesAll}
+use Rattle.unifier_nodes.specs.Work.{at, Rep, Reps, reps_nil, reps_cons, rep_func, rep_phi, Bound, unbound, bound, Good, Room, Frame}
+use Rattle.unifier_nodes.specs.Walks.{Stands, ReadsNode, Wrote}
+use Rattle.unifier_nodes.specs.States.{charged, Charges, with_made, Makes, MakesPhi, RoomFor, RoomIn, RepIn, GoodIn, Known, KnownAll, Keeps}
+use Rattle.unifier_nodes.specs.Promises.{Promise, Gives, GivesAll}
 use Rattle.unifier_nodes.specs.declared.node.Node.{Node}
 use Rattle.unifier_nodes.specs.declared.node.Node.TheVariants.{Var, Primitive, Poly, ObjectMethod, Object, Function, Phi}
-use Rattle.unifier_nodes.specs.declared.state.Got.{Got}
-use Rattle.unifier_nodes.specs.declared.state.State.{State}
-use Rattle.image.specs.declared.TypeId.{TypeId}
-use Rattle.unifier_nodes.proofs.Frames.{Same, rep_same, rep_low, frame_refl, frame_trans, frame_less, wrote_frame, copied_frame}
+use Rattle.unifier_nodes.specs.declared.state.Unifier.{Unifier}
+use Rattle.unifier_nodes.proofs.Frames.{Same, rep_same, good_same, rep_low, frame_trans, frame_from, wrote_frame, copied_frame}
+use Rattle.unifier_nodes.proofs.Words.{wrote}
+use Rattle.unifier_nodes.proofs.Promised.{keeps_refl, keeps_charged, comes_as, refuses_then, spares_then, promise_spent, promise_charged}
 use Rattle.unifier_definition.proofs.Fuel.{get_none, get_unfold}
 
 -- whether a number is 0
 pub by_zero {ℓ} : {C : Type ℓ} (x : ℕ) → (x ≡ 0 → C) → ((x ≡ 0 → ⊥) → C) → C
 by_zero zero f g = f refl
 by_zero (suc x) f g = g (λ e. omega arith)
-
--- the state of the calls, after the charge
-abbrev pub charged : State → State
-charged st = record { left = st.left - 1; top = st.top; stack = st.stack; refused = 0 }
 
 -- what a slot's word says of its binding
 pub is_free : {w : List ℕ} {lo top v : ℕ} {o : Option Ty} → v ≡ 0 → Bound w lo top v o → o ≡ none
@@ -38,6 +33,10 @@ pub is_bound : {w : List ℕ} {lo top v : ℕ} {o : Option Ty} → (v ≡ 0 → 
 is_bound z (unbound h) = absurd (z h)
 is_bound {w} {lo} {top} z (bound {t = t} h r) = (t, refl, subst (λ (x : ℕ). Rep w lo top x t) (omega arith) r)
 
+pub bound_to : {w : List ℕ} {lo top v m : ℕ} {o : Option Ty} → v ≡ m + 1 → Bound w lo top v o → (t : Ty) × (o ≡ some t) × Rep w lo top m t
+bound_to z (unbound h) = absurd (omega arith)
+bound_to {w} {lo} {top} z (bound {t = t} h r) = (t, refl, subst (λ (x : ℕ). Rep w lo top x t) (omega arith) r)
+
 -- what was read, at the variant that a `match` found
 pub read_as : {w : List ℕ} {lo n : ℕ} {r r' : Node} → r ≡ r' → ReadsNode w lo n r → ReadsNode w lo n r'
 read_as {w} {lo} {n} e h = subst (ReadsNode w lo n) e h
@@ -46,30 +45,6 @@ read_as {w} {lo} {n} e h = subst (ReadsNode w lo n) e h
 pub slot_bound : {w : List ℕ} {lo top n : ℕ} {σ : Log} {t : Ty} {s : TypeId} → top ≤ length w → ReadsNode w lo n (Var s) → Good w lo top σ → Rep w lo top n t
     → Bound w lo top (at w s.0) (lookup σ n)
 slot_bound {top = top} {n = n} {t = t} f h g r = let q = h.shows top t f r in rw q.1 (g.binds n q.2)
-
--- a refusal ends what follows
-pub refuses_then : {w : List ℕ} {lo top left number : ℕ} {A B : Type 0} {out : Outcome A} {out' : Outcome B} (k : A → ℕ → Outcome B) → out' ≡ and_then out k
-    → Refuses w lo top left number out → Refuses w lo top left number out'
-unfolding and_then
-refuses_then k e h = record { why = h.why; log = h.log; is = e ∙ ap (λ o. and_then o k) h.is; by_number = h.by_number; good = h.good }
-
--- where the definition takes its next step
-get_at : (σ : Log) {t t' : Ty} (left : ℕ) → (left ≡ 0 → ⊥) → t ≡ t' → get σ left t ≡ get_body (get σ) σ (left - 1) t'
-get_at σ {t} {t'} left z p = ap (get σ left) p ∙ ap (λ (x : ℕ). get σ x t') (omega arith) ∙ get_unfold σ (left - 1) t'
-
--- no step is left
-pub gives_none : (w : List ℕ) (lo : ℕ) (st : State) (n : ℕ) → st.left ≡ 0 → Gives w w lo st n (record { node = 0; left = 0; top = st.top; refused = 13 })
-unfolding number_of
-gives_none w lo st n z = record {
-  frame = frame_refl w 0 st.top st.stack st.left;
-  paid = record { fewer = omega arith; spent = omega arith };
-  fewer = λ e. absurd (omega arith);
-  spare = λ e. absurd (omega arith);
-  means = λ σ t g r. record {
-    finished = λ e. absurd (omega arith);
-    ended = λ e. record { why = out_of_steps; log = σ; is = ap (λ (x : ℕ). get σ x t) z ∙ get_none σ t; by_number = refl; good = g };
-  };
-}
 
 -- a node without others inside
 abbrev pub Plain : Node → Type 0
@@ -80,6 +55,13 @@ Plain ObjectMethod = Unit {0}
 Plain (Object s) = Unit {0}
 Plain (Function k s m) = ⊥
 Plain (Phi a c) = ⊥
+
+-- as one arm of a `match` finds them
+pub plain_of : {node : Node} → (node ≡ Primitive) ⊎ ((node ≡ Poly) ⊎ ((node ≡ ObjectMethod) ⊎ ((s : ℕ) × (node ≡ Object s)))) → Plain node
+plain_of (inl e) = rw e tt
+plain_of (inr (inl e)) = rw e tt
+plain_of (inr (inr (inl e))) = rw e tt
+plain_of (inr (inr (inr (s, e)))) = rw e tt
 
 -- a type without others inside
 pub data PlainType : Ty → Type 0 where
@@ -116,13 +98,6 @@ bound_get σ x g l e = rw (e, get_body)
 pub room_fits : {w : List ℕ} {top left stack : ℕ} → Room w top left stack → top ≤ length w
 room_fits room = let a = room.heap in let b = room.hand in omega arith
 
--- room for the calls
-pub room_charged : {w : List ℕ} {top left stack : ℕ} → Room w top left stack → Room w top (left - 1) stack
-room_charged room =
-    let a = room.heap in
-    let b = room.hand in
-    record { heap = omega arith; hand = omega arith; small = room.small }
-
 -- operands copied elsewhere
 pub reps_copied : {u : List ℕ} {lo top last lim from : ℕ} {ts : Tys} (v : List ℕ) (top' last' lim' to : ℕ) → top ≤ top' → Same u v lo top → lo ≤ to → last ≤ last'
     → to + count_of ts ≤ lim' → ((j : ℕ) → j < count_of ts → at v (to + j) ≡ at u (from + j)) → Reps u lo top last lim from ts → Reps v lo top' last' lim' to ts
@@ -134,175 +109,221 @@ reps_copied {u} v top' last' lim' to le s o ll fits c (reps_cons {a = from} {ts 
     (reps_copied v top' last' lim' (to + 1) le s (omega arith) ll (omega arith)
     (λ j lt. ap (at v) (omega arith) ∙ c (suc j) (omega arith) ∙ ap (at u) (omega arith)) rs)
 
-module _ {w : List ℕ} {lo : ℕ} (st : State) {n : ℕ} (room : Room w st.top st.left st.stack) (z : st.left ≡ 0 → ⊥) where
-  -- the node itself
-  gives_same : ((σ : Log) (t : Ty) → Good w lo st.top σ → Rep w lo st.top n t → get σ st.left t ≡ done t (st.left - 1))
-      → Gives w w lo st n (record { node = n; left = st.left - 1; top = st.top; refused = 0 })
-  gives_same h = record {
-    frame = frame_refl w 0 st.top st.stack st.left;
-    paid = record { fewer = omega arith; spent = omega arith };
-    fewer = λ e. omega arith;
-    spare = λ e. omega arith;
-    means = λ σ t g r. record { finished = λ e. (t, h σ t g r, r); ended = λ e. absurd (e refl) };
-  }
+-- what the words say once a node was made, after a call that kept them
+module _ {from : ℕ} {u x : Unifier} (k : Keeps from u x) (kind a b : ℕ) (room : x.top + 3 ≤ u.stack) (fits : x.top + 3 ≤ length x.words.now) where
+  pub made_wrote : Wrote x.words.now (with_made x kind a b).words.now x.top kind a b
+  made_wrote = wrote fits refl
 
-  pub gives_plain : {node : Node} → ReadsNode w lo n node → Plain node
-      → Gives w w lo st n (record { node = n; left = st.left - 1; top = st.top; refused = 0 })
-  gives_plain {node} h p = gives_same (λ σ t g r. get_at σ st.left z refl ∙ plain_get (get σ) σ (st.left - 1) (plain_type p (room_fits room) h r))
-
-  module _ {s : TypeId} (h : ReadsNode w lo n (Var s)) where
-    pub gives_free : at w s.0 ≡ 0 → Gives w w lo st n (record { node = n; left = st.left - 1; top = st.top; refused = 0 })
-    gives_free f = gives_same (λ σ t g r.
-        let q = h.shows st.top t (room_fits room) r in
-        get_at σ st.left z q.0 ∙ free_get σ n (get σ) (st.left - 1) (is_free f (slot_bound (room_fits room) h g r)) ∙ rw q.0)
-
-    pub gives_bound : {w' : List ℕ} {r : Got} → (at w s.0 ≡ 0 → ⊥) → Gives w w' lo (charged st) (at w s.0 - 1) r → Gives w w' lo st n r
-    gives_bound f a =
-        let p = a.paid.fewer in
-        let q = a.paid.spent in
-        record {
-          frame = frame_less st.left (omega arith) a.frame;
-          paid = record { fewer = omega arith; spent = omega arith };
-          fewer = λ e. omega (arith, a.fewer e);
-          spare = λ e. omega (arith, a.spare e);
-          means = λ σ t g r.
-              let b = is_bound f (slot_bound (room_fits room) h g r) in
-              rw (get_at σ st.left z (h.shows st.top t (room_fits room) r).0 ∙ bound_get σ n (get σ) (st.left - 1) b.1) (a.means σ b.0 g b.2);
-        }
-
-  -- a call was refused, and this one with it
-  gives_refused : {w' : List ℕ} {r : Got} → (r.refused ≡ 0 → ⊥) → Frame w w' 0 st.top r.top st.stack (st.left - 1)
-      → Paid st.top (st.left - 1) r.top r.left
-      → ((σ : Log) (t : Ty) → Good w lo st.top σ → Rep w lo st.top n t → Refuses w' lo r.top r.left r.refused (get σ st.left t)) → Gives w w' lo st n r
-  gives_refused f frame paid h =
-      let p = paid.fewer in
-      let q = paid.spent in
+  pub keeps_made : x.top + 3 + 4 * x.left ≤ u.top + 4 * u.left → Keeps from u (with_made x kind a b)
+  keeps_made pays =
+      let p = k.paid.fewer in
       record {
-        frame = frame_less st.left (omega arith) frame;
-        paid = record { fewer = omega arith; spent = omega arith };
-        fewer = λ e. absurd (f e);
-        spare = λ e. absurd (f e);
-        means = λ σ t g r. record { finished = λ e. absurd (f e); ended = λ e. h σ t g r };
+        same = k.same;
+        lo = k.lo;
+        stack = k.stack;
+        frame = frame_trans (omega arith) (omega arith) k.frame (frame_from from (wrote_frame {stack = u.stack} {left = 0} room made_wrote));
+        paid = record { fewer = p; spent = omega arith };
       }
 
-  module _ {k s m : ℕ} (h : ReadsNode w lo n (Function k s m)) {u v : List ℕ} {g r : Got} (a : Gives w u lo (charged st) m g) (d : MadeFunction u v g k s r) where
-    func_refused : (g.refused ≡ 0 → ⊥) → Gives w v lo st n r
-    unfolding get_body
-    func_refused f =
-        rw ((d.kept f).0, (d.kept f).1)
-        (gives_refused f a.frame a.paid (λ σ t G R.
-        let y = h.shows st.top t (room_fits room) R in
-        refuses_then (λ t' s₁. done (func y.0 s t') s₁) (get_at σ st.left z y.2) ((a.means σ y.1 G y.5).ended f)))
+-- the same once m operands in hand were copied and a Phi of them was made
+module _ {from : ℕ} {u x z : Unifier} {m p : ℕ} (k : Keeps from u x) (d : MakesPhi x m z p) (room : x.top + m + 3 ≤ u.stack) (fits : x.top + m + 3 ≤ length x.words.now) where
+  abbrev lifted : Unifier
+  lifted = record x { words = record x.words { now = d.between }; top = x.top + m }
 
-    func_finished : g.refused ≡ 0 → Gives w v lo st n r
-    unfolding get_body and_then
-    func_finished f =
-        let F = a.frame in
-        let W = wrote_frame {stack = st.stack} {left = 0} (let x = a.spare f in let y = room.heap in omega arith) (d.wrote f) in
-        let wr = d.wrote f in
-        let x = a.fewer f in
-        let y = a.spare f in
-        rw (d.made f) (record {
-          frame = frame_less st.left (omega arith) (frame_trans (omega arith) (omega arith) F W);
-          paid = record { fewer = omega arith; spent = omega arith };
-          fewer = λ e. omega arith;
-          spare = λ e. omega arith;
-          means = λ σ t G R.
-              let y = h.shows st.top t (room_fits room) R in
-              let q = (a.means σ y.1 G y.5).finished f in
-              let l = G.nodes in
-              let i = F.grows in
-              record {
-                finished = λ e. (
-                  func y.0 s q.0,
-                  get_at σ st.left z y.2 ∙ ap (λ o. and_then o (λ t' s₁. done (func y.0 s t') s₁)) q.1,
-                  rep_func {n = g.top} y.0 (omega arith) (omega arith) (wr.word0 ∙ y.3) wr.word1 wr.word2 (rep_low (omega arith) q.2)
-                      (rep_same v (g.top + 3) (omega arith) (λ j o b. W.below j (omega arith) b) q.2),
-                );
-                ended = λ e. absurd (e refl);
-              };
-        })
+  phi_wrote : Wrote d.between (with_made lifted 7 x.top m).words.now (x.top + m) 7 x.top m
+  phi_wrote = let l = d.copied.len in wrote (omega arith) refl
 
-    pub gives_func : Gives w v lo st n r
-    gives_func = by_zero g.refused func_finished func_refused
+  phi_frame : Frame x.words.now (with_made lifted 7 x.top m).words.now 0 x.top (x.top + m + 3) u.stack 0
+  phi_frame = frame_trans (omega arith) (omega arith) (copied_frame {stack = u.stack} {left = 0} (omega arith) d.copied) (wrote_frame {stack = u.stack} {left = 0} room phi_wrote)
 
-  module _ {k c : ℕ} (h : ReadsNode w lo n (Phi k c)) {u v : List ℕ} {g r : Got} (a : GivesAll w u lo (charged st) k c g) (d : MadePhi u v g st.stack r) where
-    phi_refused : (g.refused ≡ 0 → ⊥) → Gives w v lo st n r
-    unfolding get_body
-    phi_refused f =
-        rw ((d.kept f).0, (d.kept f).1)
-        (gives_refused f a.frame a.paid (λ σ t G R.
-        let y = h.shows st.top t (room_fits room) R in
-        refuses_then (λ ts s₁. done (phi ts) s₁) (get_at σ st.left z y.1) ((a.means n σ y.0 G y.3 y.2).ended f)))
+  pub keeps_phi : x.top + m + 3 + 4 * x.left ≤ u.top + 4 * u.left → Keeps from u z
+  keeps_phi pays =
+      let few = k.paid.fewer in
+      subst (λ (y : Unifier). Keeps from u y) (sym d.made) (record {
+        same = k.same;
+        lo = k.lo;
+        stack = k.stack;
+        frame = frame_trans (omega arith) (omega arith) k.frame (frame_from from phi_frame);
+        paid = record { fewer = few; spent = omega arith };
+      })
 
-    phi_finished : g.refused ≡ 0 → Gives w v lo st n r
-    unfolding get_body and_then
-    phi_finished f =
-        let F = a.frame in
-        let cp = d.copied f in
-        let wr = d.wrote f in
-        let x = a.made f in
-        let y = a.spare f in
-        let hp = room.heap in
-        let C = copied_frame {stack = st.stack} {left = 0} (omega arith) cp in
-        let W = frame_trans (omega arith) (omega arith) C (wrote_frame {stack = st.stack} {left = 0} (omega arith) wr) in
-        rw (d.made f) (record {
-          frame = frame_less st.left (omega arith) (frame_trans (omega arith) (omega arith) F W);
-          paid = record { fewer = omega arith; spent = omega arith };
-          fewer = λ e. omega arith;
-          spare = λ e. omega arith;
-          means = λ σ t G R.
-              let y = h.shows st.top t (room_fits room) R in
-              let q = (a.means n σ y.0 G y.3 y.2).finished f in
-              let l = G.nodes in
-              let i = F.grows in
-              let many = q.2 in
-              record {
-                finished = λ e. (
-                  phi q.0,
-                  get_at σ st.left z y.1 ∙ ap (λ o. and_then o (λ ts s₁. done (phi ts) s₁)) q.1,
-                  rep_phi {n = g.top + g.node} (omega arith) (omega arith) wr.word0 wr.word1 (wr.word2 ∙ many)
-                      (reps_copied v (g.top + g.node + 3) (g.top + g.node) (g.top + g.node + 3) g.top (omega arith) (λ j o b. W.below j (omega arith) b) (omega arith) (omega arith) (omega arith)
-                      (λ j b. wr.below (g.top + j) (omega arith) ∙ cp.words j (omega arith)) q.3),
-                );
-                ended = λ e. absurd (e refl);
-              };
-        })
+  pub rep_phi_made : {ts : Tys} → x.lo ≤ x.top → m ≡ count_of ts → Reps x.words.now x.lo x.top x.top (x.stack + m) x.stack ts → RepIn z p (phi ts)
+  rep_phi_made {ts} l many r =
+      let v : List ℕ = (with_made lifted 7 x.top m).words.now in
+      let wr = phi_wrote in
+      let cp = d.copied in
+      let at_top : RepIn (with_made lifted 7 x.top m) (x.top + m) (phi ts) =
+      rep_phi {n = x.top + m} (omega arith) (omega arith) wr.word0 wr.word1 (wr.word2 ∙ many)
+      (reps_copied v (x.top + m + 3) (x.top + m) (x.top + m + 3) x.top (omega arith) (λ j o b. phi_frame.below j (omega arith) b) l (omega arith) (omega arith)
+      (λ j b. wr.below (x.top + j) (omega arith) ∙ cp.words j (omega arith)) r) in
+      rw (d.node, d.made) at_top
 
-    pub gives_phi : Gives w v lo st n r
-    gives_phi = by_zero g.refused phi_finished phi_refused
+  pub good_phi : {σ : Log} → GoodIn x σ → GoodIn z σ
+  good_phi {σ} g =
+      subst (λ (y : Unifier). GoodIn y σ) (sym d.made) (good_same (with_made lifted 7 x.top m).words.now (x.top + m + 3) (omega arith) phi_frame.below g)
+
+-- `get`, after its charge
+abbrev pub GivesAfter : Unifier → ℕ → Unifier → Result ℕ Refusal → Type 0
+GivesAfter v n u' r = Promise 0 (λ m. 0) (λ x t. RepIn x n t) RepIn (λ σ s t. get_body (get σ) σ s t) v u' r
+
+pub gives_spent : {u v : Unifier} {n : ℕ} {why : Refusal} → Charges u v (Err why) → Gives u n v (Err why)
+gives_spent h = promise_spent h get_none
+
+pub gives_charged : {u v x : Unifier} {n : ℕ} (r : Result ℕ Refusal) → Charges u v (Ok tt) → GivesAfter v n x r → Gives u n x r
+gives_charged r c h = promise_charged r c.0 c.1 (λ y a. a) get_unfold h
+
+module _ {v : Unifier} {n : ℕ} (fits : v.top ≤ length v.words.now) where
+  -- the node itself
+  gives_same : ((σ : Log) (t : Ty) → GoodIn v σ → RepIn v n t → get_body (get σ) σ v.left t ≡ done t v.left) → GivesAfter v n v (Ok n)
+  gives_same h = record { keeps = keeps_refl 0 v; spare = (omega arith, omega arith); means = λ σ t g r. (t, h σ t g r, r) }
+
+  pub gives_plain : {node : Node} → ReadsNode v.words.now v.lo n node → Plain node → GivesAfter v n v (Ok n)
+  gives_plain h p = gives_same (λ σ t g r. plain_get (get σ) σ v.left (plain_type p fits h r))
+
+  module _ {s : TypeId} (h : ReadsNode v.words.now v.lo n (Var s)) where
+    pub gives_free : at v.words.now s.0 ≡ 0 → GivesAfter v n v (Ok n)
+    gives_free f = gives_same (λ σ t g r.
+        let q = h.shows v.top t fits r in
+        rw q.0 (free_get σ n (get σ) v.left (is_free f (slot_bound fits h g r))))
+
+    pub gives_bound : {x : Unifier} {m : ℕ} (r : Result ℕ Refusal) → at v.words.now s.0 ≡ m + 1 → Gives v m x r → GivesAfter v n x r
+    gives_bound {x} r f a = record {
+      keeps = a.keeps;
+      spare = spares_then (λ a. 1) 0 v v x r (omega arith) (omega arith) a.spare;
+      means = λ σ t g q.
+          let b = bound_to f (slot_bound fits h g q) in
+          comes_as RepIn x r (ap (get_body (get σ) σ v.left) (h.shows v.top t fits q).0 ∙ bound_get σ n (get σ) v.left b.1) (a.means σ b.0 g b.2);
+    }
+
+-- where the definition takes its next step
+get_at : {u v : Unifier} (σ : Log) {t t' : Ty} → Charges u v (Ok tt) → t ≡ t' → get σ u.left t ≡ get_body (get σ) σ (u.left - 1) t'
+get_at {u} σ {t} {t'} c p = ap (get σ u.left) p ∙ ap (λ (s : ℕ). get σ s t') (let z = c.0 in omega arith) ∙ get_unfold σ (u.left - 1) t'
+
+-- a Function of what its return type came to
+module _ {u v : Unifier} {n k s m : ℕ} (room : RoomIn u) (c : Charges u v (Ok tt)) (h : ReadsNode v.words.now v.lo n (Function k s m)) where
+  func_read : ReadsNode u.words.now u.lo n (Function k s m)
+  func_read = subst (λ (y : Unifier). ReadsNode y.words.now y.lo n (Function k s m)) c.1 h
+
+  pub gives_func_refused : {x : Unifier} {why : Refusal} → Gives v m x (Err why) → Gives u n x (Err why)
+  unfolding get_body
+  gives_func_refused {x} {why} a =
+      let a' : Gives (charged u) m x (Err why) = subst (λ (y : Unifier). Gives y m x (Err why)) c.1 a in
+      record {
+        keeps = keeps_charged refl a'.keeps;
+        spare = tt;
+        means = λ σ t g r.
+            let y = func_read.shows u.top t (room_fits room) r in
+            refuses_then (λ t' s₁. done (func y.0 s t') s₁) (get_at σ c y.2) (a'.means σ y.1 g y.5);
+      }
+
+  pub gives_func : {x z : Unifier} {q p : ℕ} → Gives v m x (Ok q) → Makes x k s q z p → Gives u n z (Ok p)
+  unfolding get_body and_then
+  gives_func {x} {z} {q} {p} a d =
+      let a' : Gives (charged u) m x (Ok q) = subst (λ (y : Unifier). Gives y m x (Ok q)) c.1 a in
+      let K = keeps_charged {u = u} refl a'.keeps in
+      let (few, spare) = a'.spare in
+      let hp = room.heap in
+      let hd = room.hand in
+      let len = K.frame.len in
+      let grown = K.frame.grows in
+      let high : x.top + 3 ≤ u.stack = omega arith in
+      let fits : x.top + 3 ≤ length x.words.now = omega arith in
+      let wr = made_wrote K k s q high fits in
+      let made : Gives u n (with_made x k s q) (Ok x.top) = record {
+        keeps = keeps_made K k s q high fits (omega arith);
+        spare = (omega arith, omega arith);
+        means = λ σ t g r.
+            let y = func_read.shows u.top t (room_fits room) r in
+            let i = a'.means σ y.1 g y.5 in
+            let l = g.nodes in
+            let e = K.lo in (
+              func y.0 s i.0,
+              get_at σ c y.2 ∙ ap (λ o. and_then o (λ t' s₁. done (func y.0 s t') s₁)) i.1,
+              rep_func {n = x.top} y.0 (omega arith) (omega arith) (wr.word0 ∙ y.3) wr.word1 wr.word2 (rep_low (omega arith) i.2)
+                  (rep_same (with_made x k s q).words.now (x.top + 3) (omega arith) (λ j o b. wr.below j b) i.2),
+            );
+      } in
+      rw (d.0, d.1) made
+
+-- a Phi of what its operands came to
+module _ {u v : Unifier} {n k c : ℕ} (room : RoomIn u) (ch : Charges u v (Ok tt)) (h : ReadsNode v.words.now v.lo n (Phi k c)) where
+  phi_read : ReadsNode u.words.now u.lo n (Phi k c)
+  phi_read = subst (λ (y : Unifier). ReadsNode y.words.now y.lo n (Phi k c)) ch.1 h
+
+  pub gives_phi_refused : {x : Unifier} {why : Refusal} → GivesAll v k c x (Err why) → Gives u n x (Err why)
+  unfolding get_body
+  gives_phi_refused {x} {why} a =
+      let a' : GivesAll (charged u) k c x (Err why) = subst (λ (y : Unifier). GivesAll y k c x (Err why)) ch.1 a in
+      record {
+        keeps = keeps_charged refl a'.keeps;
+        spare = tt;
+        means = λ σ t g r.
+            let y = phi_read.shows u.top t (room_fits room) r in
+            refuses_then (λ ts s₁. done (phi ts) s₁) (get_at σ ch y.1) (a'.means σ y.0 g (n, y.3, y.2));
+      }
+
+  pub gives_phi : {x z : Unifier} {m p : ℕ} → GivesAll v k c x (Ok m) → MakesPhi x m z p → Gives u n z (Ok p)
+  unfolding get_body and_then
+  gives_phi {x} {z} {m} {p} a d =
+      let a' : GivesAll (charged u) k c x (Ok m) = subst (λ (y : Unifier). GivesAll y k c x (Ok m)) ch.1 a in
+      let K = keeps_charged {u = u} refl a'.keeps in
+      let (few, spare) = a'.spare in
+      let some = ch.0 in
+      let hp = room.heap in
+      let hd = room.hand in
+      let len = K.frame.len in
+      let grown = K.frame.grows in
+      let high : x.top + m + 3 ≤ u.stack = omega arith in
+      let fits : x.top + m + 3 ≤ length x.words.now = omega arith in
+      let top : z.top ≡ x.top + m + 3 = ap (λ (y : Unifier). y.top) d.made in
+      let left : z.left ≡ x.left = ap (λ (y : Unifier). y.left) d.made in
+      record {
+        keeps = keeps_phi K d high fits (omega arith);
+        spare = (omega arith, omega arith);
+        means = λ σ t g r.
+            let y = phi_read.shows u.top t (room_fits room) r in
+            let i = a'.means σ y.0 g (n, y.3, y.2) in
+            let l = g.nodes in
+            let e = K.lo in (
+              phi i.0,
+              get_at σ ch y.1 ∙ ap (λ o. and_then o (λ ts s₁. done (phi ts) s₁)) i.1 ∙ ap (done (phi i.0)) (sym left),
+              rep_phi_made K d high fits (omega arith) i.2.0 i.2.1,
+            );
+      }
 
 -- what the calls ask for
-pub known_stands : {w : List ℕ} {lo top n : ℕ} → top ≤ length w → Known w lo top n → Stands w lo n
-known_stands {top = top} f k = record { top = top; t = k.t; fits = f; rep = k.rep }
+module _ {v : Unifier} {n : ℕ} (k : Known v n) where
+  pub known_stands : Stands v.words.now v.lo n
+  known_stands = record { top = v.top; t = k.t; fits = room_fits k.room; rep = k.rep }
 
-module _ {w : List ℕ} {lo top n : ℕ} (f : top ≤ length w) (k : Known w lo top n) where
-  pub known_slot : {s : TypeId} → ReadsNode w lo n (Var s) → s.0 < length w
-  known_slot h = let q = h.shows top k.t f k.rep in let a = q.1 in let b = q.2 in let c = k.good.nodes in omega arith
+  module _ {s : TypeId} (h : ReadsNode v.words.now v.lo n (Var s)) where
+    pub known_low : s.0 < v.lo
+    known_low = let q = h.shows v.top k.t (room_fits k.room) k.rep in let a = q.1 in let b = q.2 in omega arith
 
-  pub known_bound : {s : TypeId} → ReadsNode w lo n (Var s) → (at w s.0 ≡ 0 → ⊥) → Known w lo top (at w s.0 - 1)
-  known_bound h z =
-      let b = is_bound z (slot_bound f h k.good k.rep) in
-      record { σ = k.σ; t = b.0; good = k.good; rep = b.2 }
+    pub known_slot : s.0 < length v.words.now
+    known_slot = let a = known_low in let b = k.good.nodes in let f = room_fits k.room in omega arith
 
-  pub known_func : {a s m : ℕ} → ReadsNode w lo n (Function a s m) → Known w lo top m
-  known_func h = let q = h.shows top k.t f k.rep in record { σ = k.σ; t = q.1; good = k.good; rep = q.5 }
+    pub known_bound : {m : ℕ} → at v.words.now s.0 ≡ m + 1 → Known v m
+    known_bound z =
+        let b = bound_to z (slot_bound (room_fits k.room) h k.good k.rep) in
+        record { room = k.room; σ = k.σ; t = b.0; good = k.good; rep = b.2 }
 
-  pub known_phi : {a c : ℕ} → ReadsNode w lo n (Phi a c) → KnownAll w lo top a c
-  known_phi h = let q = h.shows top k.t f k.rep in record { σ = k.σ; ts = q.0; last = n; good = k.good; reps = q.3; many = q.2 }
+  pub known_func : {a s m : ℕ} → ReadsNode v.words.now v.lo n (Function a s m) → Known v m
+  known_func h = let q = h.shows v.top k.t (room_fits k.room) k.rep in record { room = k.room; σ = k.σ; t = q.1; good = k.good; rep = q.5 }
 
-pub room_func : {w u : List ℕ} {lo m : ℕ} (st : State) {g : Got} → Room w st.top st.left st.stack → Gives w u lo (charged st) m g → RoomFor u g st.stack 0
-room_func st room a =
-    let b = room.heap in
-    let c = room.hand in
-    let d = room.small in
-    let l = a.frame.len in
-    record { heap = λ e. omega (arith, a.spare e); hand = λ e. omega arith; small = omega arith }
+  pub known_phi : {a c : ℕ} → ReadsNode v.words.now v.lo n (Phi a c) → KnownAll v a c
+  known_phi h = let q = h.shows v.top k.t (room_fits k.room) k.rep in record { room = k.room; σ = k.σ; ts = q.0; last = n; good = k.good; reps = q.3; many = q.2 }
 
-pub room_phi : {w u : List ℕ} {lo k c : ℕ} (st : State) {g : Got} → Room w st.top st.left st.stack → (st.left ≡ 0 → ⊥) → GivesAll w u lo (charged st) k c g → RoomFor u g st.stack g.node
-room_phi st room z a =
-    let b = room.heap in
-    let c = room.hand in
-    let d = room.small in
-    let l = a.frame.len in
-    record { heap = λ e. omega (arith, a.spare e); hand = λ e. omega (arith, a.made e); small = omega arith }
+-- and for a node, and so many words before it, after a charge and a call that left as many over
+pub room_for : {from : ℕ} {u v x : Unifier} (more : ℕ) → RoomIn u → Charges u v (Ok tt) → Keeps from v x → x.left + more ≤ v.left → x.top + 4 * x.left + more ≤ v.top + 4 * v.left → RoomFor x more
+room_for {from} {u} {v} {x} more room c k few spare =
+    let k' : Keeps from (charged u) x = subst (λ (y : Unifier). Keeps from y x) c.1 k in
+    let top : v.top ≡ u.top = ap (λ (y : Unifier). y.top) c.1 in
+    let left : v.left ≡ u.left - 1 = ap (λ (y : Unifier). y.left) c.1 in
+    let z = c.0 in
+    let hp = room.heap in
+    let hd = room.hand in
+    let sm = room.small in
+    let len = k'.frame.len in
+    let st = k'.stack in
+    record { heap = omega arith; hand = omega arith; small = omega arith }

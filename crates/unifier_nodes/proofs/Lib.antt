@@ -1,8 +1,10 @@
 pub mod Frames
 pub mod Words
+pub mod Promised
 pub mod Nodes
 pub mod Equalities
 pub mod Getting
+pub mod Slots
 pub mod GetOperands
 pub mod Mentioning
 pub mod OperandLists

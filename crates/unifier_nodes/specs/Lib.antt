@@ -1,4 +1,5 @@
 pub mod Work
 pub mod Walks
+pub mod States
 pub mod Promises
 pub mod Operands

@@ -1,21 +1,19 @@
 -- What the unifier's functions promise, here and in the crates above, as one record each. Assumes nothing.
-use Rattle.std.specs.Prelude.{ℕ, ◌+◌, ◌*◌, ◌≤◌, ◌<◌, ◌≡◌, Bool, true, false, List, length}
+use Rattle.std.specs.Prelude.{ℕ, ◌+◌, ◌*◌, ◌≤◌, ◌≡◌, Bool, List, length, Option as Maybe, Some, None, Result, Ok, Err}
 use Rattle.std.proofs.Math.Option.{Option, none, some}
 use Rattle.image.specs.Ty.{Ty, Tys, count_of, variables_all}
 use Rattle.image.specs.Nesting.{member}
+use Rattle.image.specs.declared.refusal.Refusal.{Refusal}
+use Rattle.image.specs.declared.refusal.Refusal.TheVariants.{OutOfSteps}
 use Rattle.unifier_definition.specs.Equal.{type_equals, has_shape, union_with, try_union_types}
 use Rattle.unifier_definition.specs.Log.{Log, mentions}
 use Rattle.unifier_definition.specs.Outcome.{Outcome, done, refused, out_of_steps}
 use Rattle.unifier_definition.specs.Resolve.{get, get_operands, occurs_check, occurs_in_operands, Resolved, try_resolve_type, resolve_operands}
 use Rattle.unifier_definition.specs.Unify.{unify}
-use Rattle.unifier_nodes.specs.Work.{Rep, Reps, Good, Frame, Paid}
-use Rattle.unifier_nodes.specs.Walks.{TellsKind, Refuses, Gets, ResolvesTo, Unifies}
-use Rattle.unifier_nodes.specs.declared.node.Candidate.{Candidate}
-use Rattle.unifier_nodes.specs.declared.node.Candidate.TheVariants.{Found, Nothing}
-use Rattle.unifier_nodes.specs.declared.state.Got.{Got}
-use Rattle.unifier_nodes.specs.declared.state.State.{State}
-use Rattle.unifier_nodes.specs.declared.state.Occurs.{Occurs}
-use Rattle.unifier_nodes.specs.declared.state.Occurs.TheVariants.{Spent, Yes, No}
+use Rattle.unifier_nodes.specs.Work.{Rep, Reps, Good}
+use Rattle.unifier_nodes.specs.Walks.{TellsKind}
+use Rattle.unifier_nodes.specs.States.{GoodIn, RepIn, Keeps, Spares, ComesTo}
+use Rattle.unifier_nodes.specs.declared.state.Unifier.{Unifier}
 
 -- nodes a and b stand for some types
 pub record StandBoth (w : List ℕ) (lo a b : ℕ) : Type 0 where
@@ -42,16 +40,16 @@ pub record TellsShape (w : List ℕ) (lo n shape : ℕ) (r : Bool) : Type 0 wher
   pub is : (top : ℕ) (t : Ty) → top ≤ length w → Rep w lo top n t → r ≡ has_shape shape t
 
 -- a candidate, or none
-abbrev pub CandidateIs : List ℕ → (lo top : ℕ) → Candidate → Option Ty → Type 0
-CandidateIs w lo top (Found n) o = (t : Ty) × (o ≡ some t) × Rep w lo top n t
-CandidateIs w lo top Nothing o = o ≡ none
+abbrev pub CandidateIs : List ℕ → (lo top : ℕ) → Maybe ℕ → Option Ty → Type 0
+CandidateIs w lo top (Some n) o = (t : Ty) × (o ≡ some t) × Rep w lo top n t
+CandidateIs w lo top None o = o ≡ none
 
 -- the promise of `try_union_types`
-pub record Unites (w : List ℕ) (lo a b : ℕ) (r : Candidate) : Type 0 where
+pub record Unites (w : List ℕ) (lo a b : ℕ) (r : Maybe ℕ) : Type 0 where
   pub is : (top : ℕ) (t u : Ty) → top ≤ length w → Rep w lo top a t → Rep w lo top b u → CandidateIs w lo top r (try_union_types t u)
 
 -- the promise of `union_with`
-pub record UnitesWith (w : List ℕ) (lo readonly other : ℕ) (r : Candidate) : Type 0 where
+pub record UnitesWith (w : List ℕ) (lo readonly other : ℕ) (r : Maybe ℕ) : Type 0 where
   pub is : (top : ℕ) (t u : Ty) → top ≤ length w → Rep w lo top readonly t → Rep w lo top other u → CandidateIs w lo top r (union_with t u)
 
 -- so many nodes below `last` stand for some types
@@ -90,95 +88,79 @@ pub record ReadableAll (w : List ℕ) (lo a c : ℕ) : Type 0 where
   pub many : c ≡ count_of ts
 
 -- what the answer of `occurs_check` means
-abbrev pub OccursIs : ℕ → Log → Occurs → Outcome Bool → Type 0
-OccursIs left σ Spent out = out ≡ refused out_of_steps 0 σ
-OccursIs left σ (Yes l) out = (out ≡ done true l) × (l ≤ left)
-OccursIs left σ (No l) out = (out ≡ done false l) × (l ≤ left)
+abbrev pub OccursIs : Unifier → Log → Result Bool Refusal → Outcome Bool → Type 0
+OccursIs u' σ (Ok b) out = out ≡ done b u'.left
+OccursIs u' σ (Err why) out = (why ≡ OutOfSteps) × (u'.left ≡ 0) × (out ≡ refused out_of_steps 0 σ)
 
--- the promise of `occurs_check`, and of its loop over operands
-pub record Checks (w : List ℕ) (lo left v n : ℕ) (r : Occurs) : Type 0 where
-  pub is : (top : ℕ) (σ : Log) (t : Ty) → top ≤ length w → Good w lo top σ → Rep w lo top n t → OccursIs left σ r (occurs_check σ left v t)
+-- the promise of `occurs_check`, and of its loop over operands: nothing changes but the steps
+pub record Checks (u u' : Unifier) (v n : ℕ) (r : Result Bool Refusal) : Type 0 where
+  pub only_steps : u' ≡ record u { left = u'.left }
+  pub fewer : u'.left ≤ u.left
+  pub is : (top : ℕ) (σ : Log) (t : Ty) → top ≤ length u.words.now → Good u.words.now u.lo top σ → Rep u.words.now u.lo top n t
+      → OccursIs u' σ r (occurs_check σ u.left v t)
 
-pub record ChecksAll (w : List ℕ) (lo left v a c : ℕ) (r : Occurs) : Type 0 where
-  pub is : (top last : ℕ) (σ : Log) (ts : Tys) → top ≤ length w → Good w lo top σ → Reps w lo top last top a ts → c ≡ count_of ts
-      → OccursIs left σ r (occurs_in_operands (λ s t. occurs_check σ s v t) left ts)
+pub record ChecksAll (u u' : Unifier) (v a c : ℕ) (r : Result Bool Refusal) : Type 0 where
+  pub only_steps : u' ≡ record u { left = u'.left }
+  pub fewer : u'.left ≤ u.left
+  pub is : (top last : ℕ) (σ : Log) (ts : Tys) → top ≤ length u.words.now → Good u.words.now u.lo top σ
+      → Reps u.words.now u.lo top last top a ts → c ≡ count_of ts → OccursIs u' σ r (occurs_in_operands (λ s t. occurs_check σ s v t) u.left ts)
 
--- the promise of `get`; a node takes at most three of the four words of its step, so that one is left for the Phi that it is an operand of
-pub record Gives (w w' : List ℕ) (lo : ℕ) (st : State) (n : ℕ) (r : Got) : Type 0 where
-  pub frame : Frame w w' 0 st.top r.top st.stack st.left
-  pub paid : Paid st.top st.left r.top r.left
-  pub fewer : r.refused ≡ 0 → r.left < st.left
-  pub spare : r.refused ≡ 0 → r.top + 4 * r.left < st.top + 4 * st.left
-  pub means : (σ : Log) (t : Ty) → Good w lo st.top σ → Rep w lo st.top n t → Gets w' lo r (get σ st.left t)
+-- The promise of a function that is this one of the definition, for every log that the words stand for and whatever is At the nodes it is
+-- given: what it keeps, what is left over where it finishes, and that its value Is the definition's or it is refused as there.
+pub record Promise (from : ℕ) {A B X : Type 0} (over : A → ℕ) (At : Unifier → X → Type 0) (Is : Unifier → A → B → Type 0) (f : Log → ℕ → X → Outcome B)
+    (u u' : Unifier) (r : Result A Refusal) : Type 0 where
+  pub keeps : Keeps from u u'
+  pub spare : Spares over u u' r
+  pub means : (σ : Log) (x : X) → GoodIn u σ → At u x → ComesTo Is u' r (f σ u.left x)
 
--- what the answer of a loop over operands means: so many results stand from the stack on
-pub record GetsAll (w' : List ℕ) (lo stack : ℕ) (r : Got) (out : Outcome Tys) : Type 0 where
-  pub finished : r.refused ≡ 0 → (us : Tys) × (out ≡ done us r.left) × (r.node ≡ count_of us) × Reps w' lo r.top r.top (stack + r.node) stack us
-  pub ended : (r.refused ≡ 0 → ⊥) → Refuses w' lo r.top r.left r.refused out
+-- the promise of `get`: a node takes at most three of the four words of its step, so that one is left for the Phi that it is an operand of
+abbrev pub Gives : Unifier → ℕ → Unifier → Result ℕ Refusal → Type 0
+Gives u n u' r = Promise 0 (λ m. 1) (λ v t. RepIn v n t) RepIn get u u' r
+
+-- so many operands from a on, and results from where the operands in hand start
+abbrev pub GivenAll : (a c : ℕ) → Unifier → Tys → Type 0
+GivenAll a c u ts = (last : ℕ) × Reps u.words.now u.lo u.top last u.top a ts × (c ≡ count_of ts)
+
+abbrev pub InHand : Unifier → ℕ → Tys → Type 0
+InHand u m us = (m ≡ count_of us) × Reps u.words.now u.lo u.top u.top (u.stack + m) u.stack us
 
 -- the promise of `get_all`
-pub record GivesAll (w w' : List ℕ) (lo : ℕ) (st : State) (a c : ℕ) (r : Got) : Type 0 where
-  pub frame : Frame w w' 0 st.top r.top st.stack st.left
-  pub paid : Paid st.top st.left r.top r.left
-  pub made : r.refused ≡ 0 → r.left + r.node ≤ st.left
-  pub spare : r.refused ≡ 0 → r.top + 4 * r.left + r.node ≤ st.top + 4 * st.left
-  pub means : (last : ℕ) (σ : Log) (ts : Tys) → Good w lo st.top σ → Reps w lo st.top last st.top a ts → c ≡ count_of ts
-      → GetsAll w' lo st.stack r (get_operands (get σ) st.left ts)
+abbrev pub GivesAll : Unifier → (a c : ℕ) → Unifier → Result ℕ Refusal → Type 0
+GivesAll u a c u' r = Promise 0 (λ m. m) (GivenAll a c) InHand (λ σ s ts. get_operands (get σ) s ts) u u' r
+
+-- what was resolved, and the log after it
+abbrev pub ResolvedIn : Unifier → ℕ → Resolved Ty → Type 0
+ResolvedIn u m p = GoodIn u p.log × RepIn u m p.value
+
+abbrev pub ResolvedInHand : Unifier → ℕ → Resolved Tys → Type 0
+ResolvedInHand u m p = GoodIn u p.log × InHand u m p.value
+
+-- the promise of a function on a node that is this one of the definition, and may bind variables
+abbrev pub ResolvesBy : (over : ℕ) → (Log → ℕ → Ty → Outcome (Resolved Ty)) → Unifier → ℕ → Unifier → Result ℕ Refusal → Type 0
+ResolvesBy over f u n u' r = Promise u.lo (λ m. over) (λ v t. RepIn v n t) ResolvedIn f u u' r
 
 -- the promise of `try_resolve_type`
-pub record Rewrites (w w' : List ℕ) (lo : ℕ) (st : State) (v n : ℕ) (r : Got) : Type 0 where
-  pub frame : Frame w w' lo st.top r.top st.stack st.left
-  pub paid : Paid st.top st.left r.top r.left
-  pub fewer : r.refused ≡ 0 → r.left < st.left
-  pub spare : r.refused ≡ 0 → r.top + 4 * r.left < st.top + 4 * st.left
-  pub means : (σ : Log) (t : Ty) → Good w lo st.top σ → Rep w lo st.top n t → ResolvesTo w' lo r (try_resolve_type σ st.left v t)
+abbrev pub Rewrites : Unifier → (v n : ℕ) → Unifier → Result ℕ Refusal → Type 0
+Rewrites u v n u' r = ResolvesBy 1 (λ σ s t. try_resolve_type σ s v t) u n u' r
 
--- the promise of a function on a log and a node that is this function of the definition
-pub record ResolvesBy (f : Log → Ty → Outcome (Resolved Ty)) (w w' : List ℕ) (lo top left stack n : ℕ) (r : Got) : Type 0 where
-  pub frame : Frame w w' lo top r.top stack left
-  pub paid : Paid top left r.top r.left
-  pub means : (σ : Log) (t : Ty) → Good w lo top σ → Rep w lo top n t → ResolvesTo w' lo r (f σ t)
+-- the promise of its loop over operands
+abbrev pub RewritesAll : Unifier → (v a c : ℕ) → Unifier → Result ℕ Refusal → Type 0
+RewritesAll u v a c u' r = Promise u.lo (λ m. m) (GivenAll a c) ResolvedInHand (λ σ s ts. resolve_operands (λ σ' s' t. try_resolve_type σ' s' v t) σ s v ts) u u' r
 
--- the promise of `resolve_got` and `resolve_variable`: what was refused stays refused, else this function of what `get` gave
-pub record ResolvesGot (f : Log → ℕ → Ty → Outcome (Resolved Ty)) (w w' : List ℕ) (lo : ℕ) (g : Got) (stack : ℕ) (r : Got) : Type 0 where
-  pub kept : (g.refused ≡ 0 → ⊥) → (r ≡ g) × (w' ≡ w)
-  pub resolved : g.refused ≡ 0 → ResolvesBy (λ σ t. f σ g.left t) w w' lo g.top g.left stack g.node r
+-- the promise of a function on a slot and a node, or on two nodes, that is this one of the definition: the log after it
+abbrev pub LogIn : Unifier → Unit {0} → Log → Type 0
+LogIn u x σ = GoodIn u σ
 
--- the same of a loop over operands: results in hand, and a log
-pub record ResolvesToAll (w' : List ℕ) (lo stack : ℕ) (r : Got) (out : Outcome (Resolved Tys)) : Type 0 where
-  pub finished : r.refused ≡ 0
-      → (p : Resolved Tys) × (out ≡ done p r.left) × Good w' lo r.top p.log × (r.node ≡ count_of p.value) × Reps w' lo r.top r.top (stack + r.node) stack p.value
-  pub ended : (r.refused ≡ 0 → ⊥) → Refuses w' lo r.top r.left r.refused out
+abbrev pub BindsSlot : (Log → ℕ → ℕ → Ty → Outcome Log) → Unifier → (slot n : ℕ) → Unifier → Result (Unit {0}) Refusal → Type 0
+BindsSlot f u slot n u' r = Promise u.lo (λ x. 0) (λ v t. RepIn v n t) LogIn (λ σ s t. f σ s slot t) u u' r
 
-pub record RewritesAll (w w' : List ℕ) (lo : ℕ) (st : State) (v a c : ℕ) (r : Got) : Type 0 where
-  pub frame : Frame w w' lo st.top r.top st.stack st.left
-  pub paid : Paid st.top st.left r.top r.left
-  pub made : r.refused ≡ 0 → r.left + r.node ≤ st.left
-  pub spare : r.refused ≡ 0 → r.top + 4 * r.left + r.node ≤ st.top + 4 * st.left
-  pub means : (last : ℕ) (σ : Log) (ts : Tys) → Good w lo st.top σ → Reps w lo st.top last st.top a ts → c ≡ count_of ts
-      → ResolvesToAll w' lo st.stack r (resolve_operands (λ σ' s t. try_resolve_type σ' s v t) σ st.left v ts)
+abbrev pub BothIn : (a b : ℕ) → Unifier → Ty × Ty → Type 0
+BothIn a b u p = RepIn u a p.0 × RepIn u b p.1
 
--- what every function that may bind keeps
-pub record Keeps (w w' : List ℕ) (lo : ℕ) (st r : State) : Type 0 where
-  pub frame : Frame w w' lo st.top r.top st.stack st.left
-  pub paid : Paid st.top st.left r.top r.left
-  pub stack : r.stack ≡ st.stack
-
--- the words stand for a log and two types
-pub record KnownBoth (w : List ℕ) (lo top a b : ℕ) : Type 0 where
-  pub σ : Log
-  pub t : Ty
-  pub u : Ty
-  pub good : Good w lo top σ
-  pub left : Rep w lo top a t
-  pub right : Rep w lo top b u
-
--- the promise of a function on a log and two nodes that is this function of the definition
-pub record Binds (f : Log → ℕ → Ty → Ty → Outcome Log) (w w' : List ℕ) (lo : ℕ) (st : State) (a b : ℕ) (r : State) : Type 0 where
-  pub keeps : Keeps w w' lo st r
-  pub means : (σ : Log) (t u : Ty) → Good w lo st.top σ → Rep w lo st.top a t → Rep w lo st.top b u → Unifies w' lo r (f σ st.left t u)
+abbrev pub Binds : (Log → ℕ → Ty → Ty → Outcome Log) → Unifier → (a b : ℕ) → Unifier → Result (Unit {0}) Refusal → Type 0
+Binds f u a b u' r = Promise u.lo (λ x. 0) (BothIn a b) LogIn (λ σ s p. f σ s p.0 p.1) u u' r
 
 -- the promise of `unify`; its own step makes no node, so it can pay for one that the caller made
-pub record UnifiesNodes (w w' : List ℕ) (lo : ℕ) (st : State) (a b : ℕ) (r : State) : Type 0 where
-  pub binds : Binds unify w w' lo st a b r
-  pub charged : (st.left ≡ 0 → ⊥) → r.top + 4 * r.left + 4 ≤ st.top + 4 * st.left
+pub record UnifiesNodes (u : Unifier) (a b : ℕ) (u' : Unifier) (r : Result (Unit {0}) Refusal) : Type 0 where
+  pub binds : Binds unify u a b u' r
+  pub charged : (u.left ≡ 0 → ⊥) → u'.top + 4 * u'.left + 4 ≤ u.top + 4 * u.left

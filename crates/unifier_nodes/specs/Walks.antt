@@ -6,13 +6,10 @@ use Rattle.image.specs.Laid.{Laid}
 use Rattle.image.specs.Ty.{Ty, var, prim, poly, method, object, func, phi, Tys, count_of, function_kind}
 use Rattle.unifier_definition.specs.Cases.{type_kind}
 use Rattle.unifier_definition.specs.Log.{Log}
-use Rattle.unifier_definition.specs.Outcome.{Outcome, done, refused, Refusal, number_of}
-use Rattle.unifier_definition.specs.Resolve.{Resolved}
+use Rattle.unifier_definition.specs.Outcome.{Outcome, refused, Refusal, number_of}
 use Rattle.unifier_nodes.specs.Work.{at, Rep, Reps, Good}
 use Rattle.unifier_nodes.specs.declared.node.Node.{Node}
 use Rattle.unifier_nodes.specs.declared.node.Node.TheVariants.{Var, Primitive, Poly, ObjectMethod, Object, Function, Phi}
-use Rattle.unifier_nodes.specs.declared.state.Got.{Got}
-use Rattle.unifier_nodes.specs.declared.state.State.{State}
 
 -- node n stands for some type
 pub record Stands (w : List ℕ) (lo n : ℕ) : Type 0 where
@@ -55,22 +52,6 @@ pub record Copied (w w' : List ℕ) (to from c : ℕ) : Type 0 where
   pub below : (j : ℕ) → j < to → at w' j ≡ at w j
   pub above : (j : ℕ) → to + c ≤ j → at w' j ≡ at w j
 
--- the words stand for something, at the node n
-pub record Known (w : List ℕ) (lo top n : ℕ) : Type 0 where
-  pub σ : Log
-  pub t : Ty
-  pub good : Good w lo top σ
-  pub rep : Rep w lo top n t
-
--- the same of c operands from a on
-pub record KnownAll (w : List ℕ) (lo top a c : ℕ) : Type 0 where
-  pub σ : Log
-  pub ts : Tys
-  pub last : ℕ
-  pub good : Good w lo top σ
-  pub reps : Reps w lo top last top a ts
-  pub many : c ≡ count_of ts
-
 -- a refusal: its number, the steps left, and a log that the work words stand for
 pub record Refuses (w' : List ℕ) (lo top' left' number : ℕ) {A : Type 0} (out : Outcome A) : Type 0 where
   pub why : Refusal
@@ -79,44 +60,9 @@ pub record Refuses (w' : List ℕ) (lo top' left' number : ℕ) {A : Type 0} (ou
   pub by_number : number ≡ number_of why
   pub good : Good w' lo top' log
 
--- what the answer of `get` means
-pub record Gets (w' : List ℕ) (lo : ℕ) (r : Got) (out : Outcome Ty) : Type 0 where
-  pub finished : r.refused ≡ 0 → (t : Ty) × (out ≡ done t r.left) × Rep w' lo r.top r.node t
-  pub ended : (r.refused ≡ 0 → ⊥) → Refuses w' lo r.top r.left r.refused out
-
--- what the answer of `try_resolve_type` means
-pub record ResolvesTo (w' : List ℕ) (lo : ℕ) (r : Got) (out : Outcome (Resolved Ty)) : Type 0 where
-  pub finished : r.refused ≡ 0 → (p : Resolved Ty) × (out ≡ done p r.left) × Good w' lo r.top p.log × Rep w' lo r.top r.node p.value
-  pub ended : (r.refused ≡ 0 → ⊥) → Refuses w' lo r.top r.left r.refused out
-
--- what the answer of `unify` and `bind_variable_to` means
-pub record Unifies (w' : List ℕ) (lo : ℕ) (r : State) (out : Outcome Log) : Type 0 where
-  pub finished : r.refused ≡ 0 → (σ : Log) × (out ≡ done σ r.left) × Good w' lo r.top σ
-  pub ended : (r.refused ≡ 0 → ⊥) → Refuses w' lo r.top r.left r.refused out
-
 -- the contract of `kind_of`
 pub record TellsKind (w : List ℕ) (lo n : ℕ) (r : ℕ) : Type 0 where
   pub is : (top : ℕ) (t : Ty) → top ≤ length w → Rep w lo top n t → r ≡ type_kind t
-
--- the contract of `made_function`: what was refused stays refused, else a Function of what g has
-pub record MadeFunction (w w' : List ℕ) (g : Got) (kind shape : ℕ) (r : Got) : Type 0 where
-  pub kept : (g.refused ≡ 0 → ⊥) → (r ≡ g) × (w' ≡ w)
-  pub wrote : g.refused ≡ 0 → Wrote w w' g.top kind shape g.node
-  pub made : g.refused ≡ 0 → r ≡ record { node = g.top; left = g.left; top = g.top + 3; refused = 0 }
-
--- the contract of `made_phi`: .. else a Phi of the g.node operands in hand, copied to where it stands
-pub record MadePhi (w w' : List ℕ) (g : Got) (stack : ℕ) (r : Got) : Type 0 where
-  pub kept : (g.refused ≡ 0 → ⊥) → (r ≡ g) × (w' ≡ w)
-  pub between : List ℕ
-  pub copied : g.refused ≡ 0 → Copied w between g.top stack g.node
-  pub wrote : g.refused ≡ 0 → Wrote between w' (g.top + g.node) 7 g.top g.node
-  pub made : g.refused ≡ 0 → r ≡ record { node = g.top + g.node; left = g.left; top = g.top + g.node + 3; refused = 0 }
-
--- there is room for it
-pub record RoomFor (w : List ℕ) (g : Got) (stack more : ℕ) : Type 0 where
-  pub heap : g.refused ≡ 0 → g.top + more + 3 ≤ stack
-  pub hand : g.refused ≡ 0 → stack + more ≤ length w
-  pub small : length w < 2 ^ 32
 
 -- the node of type n of the image, where the nodes of its type rows start at `types`: a Var's is its slot
 unfoldable pub type_node : (img : List ℕ) (types n : ℕ) → ℕ

@@ -3,6 +3,7 @@ ghost use Rattle.std.specs.Prelude.{◌≡◌, ◌+◌, ◌≤◌, ◌<◌, ◌^
 ghost use Rattle.unifier_nodes.specs.Walks.{Stands, ReadsNode, TellsKind, with_node, type_node, TypePlaced};
 ghost use Rattle.unifier_nodes.specs.Promises.{StandBoth, StandAll, Leaves, Equals, TellsShape, UnitesWith, Unites, TellsMention, TellsMentionAll};
 
+use crate::state::Unifier;
 use image::{Table, TypeId, cell, shapes, type_kinds};
 
 // The words of a node.
@@ -75,116 +76,120 @@ pub fn node_of_type(img: &[u32], types: u32, t: u32) -> u32
     types + NODE_WORDS * t
 }
 
-// The candidate type, or none.
-#[derive(Clone, Copy)]
-pub enum Candidate {
-    Found(u32),
-    Nothing,
-}
+impl Unifier<'_> {
+    pub fn node(&self, n: u32) -> Node
+        requires { Stands self.now.words.now self.now.lo n }
+        ensures { ReadsNode self.now.words.now self.now.lo n result }
+    {
+        node_at(self.words, self.lo, n)
+    }
 
-// Two nodes of one kind that is no Function.
-fn leaves_equal(w: &[u32], lo: u32, a: u32, b: u32, kind: u32) -> bool
-    requires { Leaves w.now lo a b kind }
-    ensures { Equals w.now lo a b result }
-{
-    match kind {
-        type_kinds::VAR => a == b,
-        type_kinds::PRIMITIVE | type_kinds::POLY | type_kinds::OBJECT_METHOD => true,
-        type_kinds::OBJECT => w[a as usize + 1] == w[b as usize + 1],
-        _ => false,
+    pub fn kind(&self, n: u32) -> u32
+        requires { Stands self.now.words.now self.now.lo n }
+        ensures { TellsKind self.now.words.now self.now.lo n result }
+    {
+        kind_of(self.words, self.lo, n)
     }
-}
 
-// Shape and constructor of Functions are not compared; two Phis are never equal.
-pub fn type_equals(w: &[u32], lo: u32, a: u32, b: u32) -> bool
-    requires { StandBoth w.now lo a b }
-    ensures { Equals w.now lo a b result }
-{
-    let mut x = a;
-    let mut y = b;
-    loop {
-        let Node::Function(_, _, from) = node_at(w, lo, x) else {
-            let kind = kind_of(w, lo, x);
-            if kind != kind_of(w, lo, y) {
-                return false;
-            }
-            return leaves_equal(w, lo, x, y, kind);
-        };
-        let Node::Function(_, _, to) = node_at(w, lo, y) else {
-            return false;
-        };
-        x = from;
-        y = to;
-    }
-}
-
-// The Object of a shape.
-pub fn is_object_of(w: &[u32], lo: u32, n: u32, shape: u32) -> bool
-    requires { Stands w.now lo n }
-    ensures { TellsShape w.now lo n shape result }
-{
-    if kind_of(w, lo, n) != type_kinds::OBJECT {
-        return false;
-    }
-    w[n as usize + 1] == shape
-}
-
-fn union_with(w: &[u32], lo: u32, readonly: u32, other: u32) -> Candidate
-    requires { StandBoth w.now lo readonly other }
-    ensures { UnitesWith w.now lo readonly other result }
-{
-    if kind_of(w, lo, other) == type_kinds::PRIMITIVE {
-        return Candidate::Found(readonly);
-    }
-    if is_object_of(w, lo, other, shapes::BUILT_IN_ARRAY_ID) {
-        return Candidate::Found(other);
-    }
-    Candidate::Nothing
-}
-
-pub fn try_union_types(w: &[u32], lo: u32, a: u32, b: u32) -> Candidate
-    requires { StandBoth w.now lo a b }
-    ensures { Unites w.now lo a b result }
-{
-    if is_object_of(w, lo, a, shapes::BUILT_IN_MIXED_READONLY_ID) {
-        return union_with(w, lo, a, b);
-    }
-    if is_object_of(w, lo, b, shapes::BUILT_IN_MIXED_READONLY_ID) {
-        return union_with(w, lo, b, a);
-    }
-    Candidate::Nothing
-}
-
-// Whether the type mentions the variable.
-#[cycle(mention)]
-pub fn mentions(w: &[u32], lo: u32, n: u32, v: TypeId) -> bool
-    requires { Stands w.now lo n }
-    ensures { TellsMention w.now lo n v.0 result }
-{
-    match node_at(w, lo, n) {
-        Node::Var(x) => x.0 == v.0,
-        Node::Function(_, _, ret) => mentions(w, lo, ret, v),
-        Node::Phi(at, count) => mentions_any(w, lo, n, at, count, v),
-        Node::Primitive => false,
-        Node::Poly => false,
-        Node::ObjectMethod => false,
-        Node::Object(_) => false,
-    }
-}
-
-// Whether one of the operands does, which are nodes below last.
-#[cycle(mention)]
-fn mentions_any(w: &[u32], lo: u32, last: u32, at: u32, count: u32, v: TypeId) -> bool
-    requires { StandAll w.now lo last at count }
-    ensures { TellsMentionAll w.now lo last at count v.0 result }
-{
-    let mut k: u32 = 0;
-    while k < count {
-        let n = w[at as usize + k as usize];
-        if mentions(w, lo, n, v) {
-            return true;
+    // Two nodes of one kind that is no Function.
+    fn leaves_equal(&self, a: u32, b: u32, kind: u32) -> bool
+        requires { Leaves self.now.words.now self.now.lo a b kind }
+        ensures { Equals self.now.words.now self.now.lo a b result }
+    {
+        match kind {
+            type_kinds::VAR => a == b,
+            type_kinds::PRIMITIVE | type_kinds::POLY | type_kinds::OBJECT_METHOD => true,
+            type_kinds::OBJECT => self.words[a as usize + 1] == self.words[b as usize + 1],
+            _ => false,
         }
-        k += 1;
     }
-    false
+
+    // Shape and constructor of Functions are not compared; two Phis are never equal.
+    pub fn type_equals(&self, a: u32, b: u32) -> bool
+        requires { StandBoth self.now.words.now self.now.lo a b }
+        ensures { Equals self.now.words.now self.now.lo a b result }
+    {
+        let mut x = a;
+        let mut y = b;
+        loop {
+            let Node::Function(_, _, from) = self.node(x) else {
+                let kind = self.kind(x);
+                if kind != self.kind(y) {
+                    return false;
+                }
+                return self.leaves_equal(x, y, kind);
+            };
+            let Node::Function(_, _, to) = self.node(y) else {
+                return false;
+            };
+            x = from;
+            y = to;
+        }
+    }
+
+    // Whether the type is the Object of a shape.
+    pub fn is_object_of(&self, n: u32, shape: u32) -> bool
+        requires { Stands self.now.words.now self.now.lo n }
+        ensures { TellsShape self.now.words.now self.now.lo n shape result }
+    {
+        if self.kind(n) != type_kinds::OBJECT {
+            return false;
+        }
+        self.words[n as usize + 1] == shape
+    }
+
+    fn union_with(&self, readonly: u32, other: u32) -> Option<u32>
+        requires { StandBoth self.now.words.now self.now.lo readonly other }
+        ensures { UnitesWith self.now.words.now self.now.lo readonly other result }
+    {
+        if self.kind(other) == type_kinds::PRIMITIVE {
+            return Some(readonly);
+        }
+        if self.is_object_of(other, shapes::BUILT_IN_ARRAY_ID) {
+            return Some(other);
+        }
+        None
+    }
+
+    // The candidate type of the two, if there is one.
+    pub fn try_union_types(&self, a: u32, b: u32) -> Option<u32>
+        requires { StandBoth self.now.words.now self.now.lo a b }
+        ensures { Unites self.now.words.now self.now.lo a b result }
+    {
+        if self.is_object_of(a, shapes::BUILT_IN_MIXED_READONLY_ID) {
+            return self.union_with(a, b);
+        }
+        if self.is_object_of(b, shapes::BUILT_IN_MIXED_READONLY_ID) {
+            return self.union_with(b, a);
+        }
+        None
+    }
+
+    // Whether the type mentions the variable.
+    #[cycle(mention)]
+    pub fn mentions(&self, n: u32, v: TypeId) -> bool
+        requires { Stands self.now.words.now self.now.lo n }
+        ensures { TellsMention self.now.words.now self.now.lo n v.0 result }
+    {
+        match self.node(n) {
+            Node::Var(x) => x.0 == v.0,
+            Node::Function(_, _, return_type) => self.mentions(return_type, v),
+            Node::Phi(at, count) => self.mentions_any(n, at, count, v),
+            Node::Primitive | Node::Poly | Node::ObjectMethod | Node::Object(_) => false,
+        }
+    }
+
+    // Whether one of the operands does, which are nodes below last. By index, since nothing says that a slice of none lies in the words.
+    #[cycle(mention)]
+    fn mentions_any(&self, last: u32, at: u32, count: u32, v: TypeId) -> bool
+        requires { StandAll self.now.words.now self.now.lo last at count }
+        ensures { TellsMentionAll self.now.words.now self.now.lo last at count v.0 result }
+    {
+        for k in 0..count {
+            if self.mentions(self.words[at as usize + k as usize], v) {
+                return true;
+            }
+        }
+        false
+    }
 }

@@ -1,41 +1,49 @@
-// What the unifier's functions hand on and answer.
-ghost use Rattle.std.specs.Prelude.{◌≡◌};
+// What the unifier's functions work on.
+ghost use Rattle.std.specs.Prelude.{◌≡◌, ◌+◌, ◌<◌, ◌^◌, length};
+ghost use Rattle.unifier_nodes.specs.Work.{at};
+ghost use Rattle.unifier_nodes.specs.States.{Charges, BindingIs, with_binding};
 
-// The steps left; the next free word; where the operands in hand start; 0, or the number of a refusal.
-#[derive(Clone, Copy)]
-pub struct State {
+use image::TypeId;
+use image::refusal::Refusal;
+
+// The work words, which hold the types as nodes and the substitution; where nodes start; the steps left; the next free word; where
+// the operands in hand start. That there is room for what the steps can make is no invariant: `unify` asks for it only after its own
+// step, which makes no node and can pay for one that the caller made.
+#[derive(Drop)]
+pub struct Unifier<'a> {
+    pub words: &'a mut [u32],
+    pub lo: u32,
     pub left: u32,
     pub top: u32,
     pub stack: u32,
-    pub refused: u32,
 }
 
-// The state with these steps left, and this number.
-pub fn refuse(st: State, left: u32, number: u32) -> State
-    ensures { result ≡ record { left = left; top = st.top; stack = st.stack; refused = number } }
-{
-    let top = st.top;
-    let stack = st.stack;
-    State {
-        left,
-        top,
-        stack,
-        refused: number,
+impl Unifier<'_> {
+    // A step is taken, if one is left.
+    pub fn charge(&mut self) -> Result<(), Refusal>
+        ensures { Charges self.old self.new result }
+    {
+        if self.left == 0 {
+            return Err(Refusal::OutOfSteps);
+        }
+        self.left -= 1;
+        Ok(())
     }
-}
 
-// A node, and the state after it was made, but for the operands in hand, which are as before.
-#[derive(Clone, Copy)]
-pub struct Got {
-    pub node: u32,
-    pub left: u32,
-    pub top: u32,
-    pub refused: u32,
-}
+    // The node that a slot is bound to.
+    pub fn binding(&self, slot: TypeId) -> Option<u32>
+        requires { slot.0 < length self.now.words.now }
+        ensures { BindingIs (at self.now.words.now slot.0) result }
+    {
+        self.words[slot.0 as usize].checked_sub(1)
+    }
 
-#[derive(Clone, Copy)]
-pub enum Occurs {
-    Spent,
-    Yes(u32),
-    No(u32),
+    // The slot is bound to the node.
+    pub fn bind(&mut self, slot: TypeId, node: u32)
+        requires inside { slot.0 < length self.old.words.now }
+        requires fits { node + 1 < 2 ^ 32 }
+        ensures { self.new ≡ with_binding self.old slot.0 node }
+    {
+        self.words[slot.0 as usize] = node + 1;
+    }
 }

@@ -6,13 +6,14 @@ use mathlib.Core.Option.{Option, none, some}
 use Prim.Native.Nat.{ℕ, zero, suc, ◌+◌, ◌-◌, ◌/◌, ◌%◌, ◌≤◌, ◌<◌}
 use native.Mathlib.Omega.{arith}
 use native.Mathlib.Numerals.{add-one}
-use lib.ListN.{get_or, take, replicate}
-use lib.Seq.{take_at}
-use lib.Dec.{ltb}
+use lib.ListN.{get_or}
+use lib.Dec.{eqb, ltb}
 use borrow.Author.Tests.{eq-eqb, ne_eqb, ltb-true}
-use Rattle.names.specs.Names.{same, starts_with, use_bytes, is_hook_name}
-use Rattle.names.specs.Digits.{decimal, digits, Written}
+use Rattle.std.specs.List.{starts_with}
+use Rattle.names.specs.Names.{same, use_bytes, is_hook_name}
+use Rattle.names.specs.Digits.{decimal, digits}
 use Rattle.image.specs.Ty.{NONE}
+use Rattle.image.specs.declared.TypeId.{TypeId}
 use Rattle.image.specs.declared.Table.{Table}
 use Rattle.image.specs.declared.Table.TheVariants.{Names, Shapes, Properties}
 use Rattle.image.specs.Image.{count, cell, word, name_at, Property, property_at, properties_from, shape_at}
@@ -21,13 +22,11 @@ use Rattle.image.specs.Program.{tabulate, tabulate_from}
 use Rattle.unifier_definition.specs.Cases.{shape_of}
 use Rattle.unifier_definition.specs.Property.{star_bytes, PropertyNameKind, string, number, computed, Rule, exact, star, entry}
 use Rattle.unifier_properties.specs.Lookup.{registry_of, key_name, entry_number, answer, number_by_entry, or_later, number_by_hook, number_on_registered, number_on_shape, lookup_of, RowsInside, KeyInside, LookupAsked, GivesShape}
-use Rattle.unifier_nodes.specs.Walks.{ReadsNode}
 use Rattle.unifier_nodes.specs.declared.node.Node.{Node}
 use Rattle.unifier_nodes.specs.declared.node.Node.TheVariants.{Var, Primitive, Poly, ObjectMethod, Object, Function, Phi}
 use Rattle.unifier_properties.specs.declared.Key.{Key}
 use Rattle.unifier_properties.specs.declared.Key.TheVariants.{String, Position, Number, Computed}
-use Rattle.unifier_properties.specs.declared.Entry.{Entry}
-use Rattle.unifier_properties.specs.declared.Entry.TheVariants.{Is, Missing}
+use Rattle.std.proofs.Common.{Option as Maybe, Some, None, ◌⊎◌, inl, inr}
 use Rattle.unifier_properties.specs.declared.Lookup.TheVariants.{Exact, Star, Hook, Nothing}
 
 -- the shape that a node shows
@@ -40,19 +39,25 @@ shape_shown (Object s) = s
 shape_shown (Function k s m) = s
 shape_shown (Phi a c) = NONE
 
-shape_read : {w : List ℕ} {lo n : ℕ} (node : Node) → ReadsNode w lo n node → GivesShape w lo n (shape_shown node)
+shape_read : (node : Node) → GivesShape node (shape_shown node)
 unfolding shape_of
-shape_read (Var s) h = record { is = λ top t f r. rw (h.shows top t f r).0 }
-shape_read Primitive h = record { is = λ top t f r. rw (h.shows top t f r) }
-shape_read Poly h = record { is = λ top t f r. rw (h.shows top t f r) }
-shape_read ObjectMethod h = record { is = λ top t f r. rw (h.shows top t f r) }
-shape_read (Object s) h = record { is = λ top t f r. rw (h.shows top t f r) }
-shape_read (Function k s m) h = record { is = λ top t f r. rw (h.shows top t f r).2 }
-shape_read (Phi a c) h = record { is = λ top t f r. rw (h.shows top t f r).1 }
+shape_read (Var s) = record { is = λ w lo top n t h. rw h.0 }
+shape_read Primitive = record { is = λ w lo top n t h. rw h }
+shape_read Poly = record { is = λ w lo top n t h. rw h }
+shape_read ObjectMethod = record { is = λ w lo top n t h. rw h }
+shape_read (Object s) = record { is = λ w lo top n t h. rw h }
+shape_read (Function k s m) = record { is = λ w lo top n t h. rw h.2 }
+shape_read (Phi a c) = record { is = λ w lo top n t h. rw h.1 }
 
--- the shape of a node that was read, at the variant that a `match` found
-pub gives_shape : {w : List ℕ} {lo n : ℕ} {r node : Node} → r ≡ node → ReadsNode w lo n r → GivesShape w lo n (shape_shown node)
-gives_shape {w} {lo} {n} {r} {node} e h = shape_read node (subst (ReadsNode w lo n) e h)
+-- at the variant that a `match` found
+pub gives_shape : {r node : Node} → r ≡ node → GivesShape r (shape_shown node)
+gives_shape {r} {node} e = rw e (shape_read node)
+
+pub gives_none : {r : Node} → ((s : TypeId) × (r ≡ Var s)) ⊎ ((r ≡ Primitive) ⊎ ((r ≡ Poly) ⊎ (r ≡ ObjectMethod))) → GivesShape r NONE
+gives_none (inl (s, e)) = gives_shape e
+gives_none (inr (inl e)) = gives_shape e
+gives_none (inr (inr (inl e))) = gives_shape e
+gives_none (inr (inr (inr e))) = gives_shape e
 
 -- property rows that are in their table
 module _ {img bytes : List ℕ} {first n : ℕ} (h : RowsInside img bytes first n) where
@@ -90,35 +95,35 @@ module _ (img bytes text : List ℕ) (p e : ℕ) where
       rw q
 
 -- what `find_entry` says of an entry's type number
-module _ (rule : Rule) (o : Option Property) {r : Entry} (q : r ≡ entry_number o) where
-  pub entry_is : {t : ℕ} → r ≡ Is t → number_by_entry rule o ≡ answer rule t
+module _ (rule : Rule) (o : Option Property) {r : Maybe ℕ} (q : r ≡ entry_number o) where
+  pub entry_is : {t : ℕ} → r ≡ Some t → number_by_entry rule o ≡ answer rule t
   unfolding number_by_entry entry_number
   entry_is {t} p = go o (sym p ∙ q)
     where
-      go : (o : Option Property) → Is t ≡ entry_number o → number_by_entry rule o ≡ answer rule t
+      go : (o : Option Property) → Some t ≡ entry_number o → number_by_entry rule o ≡ answer rule t
       go none e = absurd (let z : ◌≡◌ {A = ℕ} 0 1 = cc in omega arith)
       go (some m) e = let z : m.number ≡ t = cc in rw z
 
-  pub entry_missing : r ≡ Missing → number_by_entry rule o ≡ Nothing
+  pub entry_missing : r ≡ None → number_by_entry rule o ≡ Nothing
   unfolding number_by_entry entry_number
   entry_missing p = go o (sym p ∙ q)
     where
-      go : (o : Option Property) → Missing ≡ entry_number o → number_by_entry rule o ≡ Nothing
+      go : (o : Option Property) → None ≡ entry_number o → number_by_entry rule o ≡ Nothing
       go none e = refl
       go (some m) e = absurd (let z : ◌≡◌ {A = ℕ} 0 1 = cc in omega arith)
 
 -- a string name on a registered shape: the exact name, "*", the hook rule
-module _ (img : List ℕ) (ps : List Property) (text : List ℕ) {r : Entry} (q : r ≡ entry_number (entry ps text)) where
-  pub name_exact : {t : ℕ} → r ≡ Is t → Exact t ≡ number_on_registered img ps (string text)
+module _ (img : List ℕ) (ps : List Property) (text : List ℕ) {r : Maybe ℕ} (q : r ≡ entry_number (entry ps text)) where
+  pub name_exact : {t : ℕ} → r ≡ Some t → Exact t ≡ number_on_registered img ps (string text)
   unfolding number_on_registered or_later answer
   name_exact p = rw (entry_is exact (entry ps text) q p)
 
-  module _ {r' : Entry} (p : r ≡ Missing) (q' : r' ≡ entry_number (entry ps star_bytes)) where
-    pub name_star : {t : ℕ} → r' ≡ Is t → Star t ≡ number_on_registered img ps (string text)
+  module _ {r' : Maybe ℕ} (p : r ≡ None) (q' : r' ≡ entry_number (entry ps star_bytes)) where
+    pub name_star : {t : ℕ} → r' ≡ Some t → Star t ≡ number_on_registered img ps (string text)
     unfolding number_on_registered or_later answer
     name_star p' = rw (entry_missing exact (entry ps text) q p, or_later, entry_is star (entry ps star_bytes) q' p')
 
-    pub name_hook : r' ≡ Missing → number_by_hook img (string text) ≡ number_on_registered img ps (string text)
+    pub name_hook : r' ≡ None → number_by_hook img (string text) ≡ number_on_registered img ps (string text)
     unfolding number_on_registered or_later
     name_hook p' = rw (entry_missing exact (entry ps text) q p, entry_missing star (entry ps star_bytes) q' p')
 
@@ -151,10 +156,9 @@ first_digit (suc m) n = go (ltb n 10) refl (first_digit m (n / 10))
     go true q h = rw (decimal, q) (omega (arith, ltb-true n 10 q))
     go false q h = rw (decimal, q) (first_append (decimal m (n / 10)) (48 + n % 10) h (omega arith))
 
-no_use : (name : List ℕ) → get_or name 0 0 ≤ 57 → starts_with use_bytes name ≡ false
-unfolding starts_with same
+no_use : (name : List ℕ) → get_or name 0 0 ≤ 57 → starts_with eqb name use_bytes ≡ false
 no_use [] h = refl
-no_use (x ∷ xs) h = let n : x ≡ 117 → ⊥ = λ e. omega arith in rw (same, ne_eqb x 117 n)
+no_use (x ∷ xs) h = let n : 117 ≡ x → ⊥ = λ e. omega arith in rw (ne_eqb 117 x n)
 
 digits_no_hook : (k : ℕ) → is_hook_name (digits k) ≡ false
 unfolding digits is_hook_name
@@ -170,9 +174,9 @@ module _ (img bytes : List ℕ) {key : Key} where
   unfolding key_name
   names_string e p = rw (e, p)
 
-  pub names_position : {k len : ℕ} {text : List ℕ} → key ≡ Position k → Written k text len → key_name img bytes key ≡ string (take len text)
+  pub names_position : {k : ℕ} {text : List ℕ} → key ≡ Position k → text ≡ digits k → key_name img bytes key ≡ string text
   unfolding key_name
-  names_position {k} {len} e w = rw (e, w.content, take_at (digits k) (replicate (10 - len) 0) len (sym w.count))
+  names_position e t = rw (e, t)
 
   pub names_number : key ≡ Number → key_name img bytes key ≡ number
   unfolding key_name

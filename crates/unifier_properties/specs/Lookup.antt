@@ -1,5 +1,5 @@
 -- The property lookup over the image: its keys, and what its answers stand for. Assumes nothing.
-use Rattle.std.specs.Prelude.{ℕ, ◌+◌, ◌≤◌, ◌<◌, ◌≡◌, true, false, List, length, get_or, eqb}
+use Rattle.std.specs.Prelude.{ℕ, ◌+◌, ◌≤◌, ◌<◌, ◌≡◌, true, false, List, get_or, eqb, Option as Maybe, Some, None}
 use Rattle.std.proofs.Math.Option.{Option, none, some}
 use Rattle.names.specs.Names.{is_hook_name}
 use Rattle.names.specs.Digits.{digits}
@@ -9,12 +9,11 @@ use Rattle.image.specs.Laid.{Laid, NamesInside}
 use Rattle.image.specs.Program.{tabulate}
 use Rattle.image.specs.declared.Table.TheVariants.{Names, Types, Shapes, Properties}
 use Rattle.unifier_definition.specs.Cases.{shape_of}
-use Rattle.unifier_nodes.specs.Work.{Rep}
+use Rattle.unifier_nodes.specs.Walks.{Shows}
+use Rattle.unifier_nodes.specs.declared.node.Node.{Node}
 use Rattle.unifier_definition.specs.Property.{star_bytes, PropertyNameKind, string, number, computed, Registry, Rule, exact, star, hook, entry}
 use Rattle.unifier_properties.specs.declared.Key.{Key}
 use Rattle.unifier_properties.specs.declared.Key.TheVariants.{String, Position, Number, Computed}
-use Rattle.unifier_properties.specs.declared.Entry.{Entry}
-use Rattle.unifier_properties.specs.declared.Entry.TheVariants.{Is, Missing}
 use Rattle.unifier_properties.specs.declared.Lookup.{Lookup}
 use Rattle.unifier_properties.specs.declared.Lookup.TheVariants.{Exact, Star, Hook, Nothing}
 
@@ -30,9 +29,9 @@ key_name img bytes Number = number
 key_name img bytes Computed = computed
 
 -- the type number of an entry
-unfoldable pub entry_number : Option Property → Entry
-entry_number none = Missing
-entry_number (some p) = Is p.number
+unfoldable pub entry_number : Option Property → Maybe ℕ
+entry_number none = None
+entry_number (some p) = Some p.number
 
 -- the answer of a rule that gives a type of this number
 unfoldable pub answer : Rule → ℕ → Lookup
@@ -112,12 +111,12 @@ pub record LookupAsked (img bytes : List ℕ) (key : Key) : Type 0 where
   pub key_inside : KeyInside img key
 
 -- the type number that a lookup gives
-unfoldable pub lookup_number : Lookup → Entry
-lookup_number (Exact n) = Is n
-lookup_number (Star n) = Is n
-lookup_number (Hook n) = Is n
-lookup_number Nothing = Missing
+unfoldable pub lookup_number : Lookup → Maybe ℕ
+lookup_number (Exact n) = Some n
+lookup_number (Star n) = Some n
+lookup_number (Hook n) = Some n
+lookup_number Nothing = None
 
--- the contract of `shape_of`
-pub record GivesShape (w : List ℕ) (lo n : ℕ) (r : ℕ) : Type 0 where
-  pub is : (top : ℕ) (t : Ty) → top ≤ length w → Rep w lo top n t → r ≡ shape_of t
+-- the contract of `shape_of`: the shape of the type that the node shows
+pub record GivesShape (node : Node) (r : ℕ) : Type 0 where
+  pub is : (w : List ℕ) (lo top n : ℕ) (t : Ty) → Shows w lo top n node t → r ≡ shape_of t

@@ -5,12 +5,11 @@ ghost use Rattle.std.specs.Prelude.{◌≡◌};
 ghost use Rattle.image.specs.Image.{properties_from};
 ghost use Rattle.unifier_definition.specs.Property.{entry, star, star_bytes, string};
 ghost use Rattle.unifier_properties.specs.Lookup.{key_name, entry_number, number_by_entry, number_by_hook, number_on_registered, lookup_of, TypesInside, RegistryInside, RowsInside, KeyInside, LookupAsked, GivesShape};
-ghost use Rattle.unifier_nodes.specs.Walks.{Stands};
 
 use image::{NONE, Table, cell, count, header, name_bytes, shapes};
 use names::digits::digits_of;
 use names::{is_hook_name, same_bytes};
-use unifier_nodes::node::{Node, node_at};
+use unifier_nodes::node::Node;
 
 // A property's name: a name of the image, an array position, a number, or a computed key.
 #[derive(Clone, Copy)]
@@ -19,13 +18,6 @@ pub enum Key {
     Position(u32),
     Number,
     Computed,
-}
-
-// The type number of an entry among a shape's properties.
-#[derive(Clone, Copy)]
-pub enum Entry {
-    Is(u32),
-    Missing,
 }
 
 // The type number that a lookup gives, by the rule that gave it.
@@ -38,33 +30,29 @@ pub enum Lookup {
 }
 
 // The shape of an Object or a Function, NONE for no shape or another kind of type.
-pub fn shape_of(w: &[u32], lo: u32, n: u32) -> u32
-    requires { Stands w.now lo n }
-    ensures { GivesShape w.now lo n result }
+pub fn shape_of(node: Node) -> u32
+    ensures { GivesShape node result }
 {
-    match node_at(w, lo, n) {
+    match node {
         Node::Object(shape) => shape,
         Node::Function(_, shape, _) => shape,
-        Node::Var(_) => NONE,
-        Node::Primitive => NONE,
-        Node::Poly => NONE,
-        Node::ObjectMethod => NONE,
+        Node::Var(_) | Node::Primitive | Node::Poly | Node::ObjectMethod => NONE,
         Node::Phi(_, _) => NONE,
     }
 }
 
-// The entry of this name among n property rows from first on.
-fn find_entry(img: &[u32], bytes: &[u8], first: u32, n: u32, text: &[u8]) -> Entry
+// The type number of the entry of this name among n property rows from first on.
+fn find_entry(img: &[u32], bytes: &[u8], first: u32, n: u32, text: &[u8]) -> Option<u32>
     requires { RowsInside img.now bytes.now first n }
     ensures { result ≡ entry_number (entry (properties_from img.now bytes.now first n) text.now) }
 {
     for p in first..first + n {
         let name = cell(img, Table::Properties, p, 0);
         if same_bytes(name_bytes(img, bytes, name), text) {
-            return Entry::Is(cell(img, Table::Properties, p, 1));
+            return Some(cell(img, Table::Properties, p, 1));
         }
     }
-    Entry::Missing
+    None
 }
 
 // The hook type, if this is a hook name.
@@ -101,8 +89,8 @@ fn star_entry(img: &[u32], bytes: &[u8], first: u32, n: u32) -> Lookup
     ensures { result ≡ number_by_entry star (entry (properties_from img.now bytes.now first n) star_bytes) }
 {
     match find_entry(img, bytes, first, n, b"*") {
-        Entry::Is(t) => Lookup::Star(t),
-        Entry::Missing => Lookup::Nothing,
+        Some(t) => Lookup::Star(t),
+        None => Lookup::Nothing,
     }
 }
 
@@ -112,10 +100,10 @@ fn by_name(img: &[u32], bytes: &[u8], first: u32, n: u32, text: &[u8]) -> Lookup
     ensures { result ≡ number_on_registered img.now (properties_from img.now bytes.now first n) (string text.now) }
 {
     let star: &[u8] = b"*";
-    if let Entry::Is(t) = find_entry(img, bytes, first, n, text) {
+    if let Some(t) = find_entry(img, bytes, first, n, text) {
         return Lookup::Exact(t);
     }
-    if let Entry::Is(t) = find_entry(img, bytes, first, n, star) {
+    if let Some(t) = find_entry(img, bytes, first, n, star) {
         return Lookup::Star(t);
     }
     hook_by_name(img, text)
@@ -128,12 +116,7 @@ fn on_registered(img: &[u32], bytes: &[u8], first: u32, n: u32, key: Key) -> Loo
 {
     match key {
         Key::String(name) => by_name(img, bytes, first, n, name_bytes(img, bytes, name)),
-        Key::Position(k) => {
-            let d = digits_of(k);
-            let digits = d.bytes;
-            let len = d.len;
-            by_name(img, bytes, first, n, &digits[..len])
-        }
+        Key::Position(k) => by_name(img, bytes, first, n, digits_of(k).as_slice()),
         Key::Number => star_entry(img, bytes, first, n),
         Key::Computed => star_entry(img, bytes, first, n),
     }

@@ -1,49 +1,64 @@
 -- What `occurs_check` and its loop over operands answer at each way that they return. Assumes nothing.
-use mathlib.Core.Path.{◌≡◌, refl, sym, ap, ◌∙◌, subst}
-use mathlib.Core.Bool.{Bool, true, false}
-use mathlib.Core.List.{List}
+use Rattle.std.proofs.Common.{◌≡◌, refl, sym, ap, ◌∙◌, subst, Bool, true, false, ℕ, suc, ◌+◌, ◌-◌, ◌≤◌, ◌<◌, arith, List, length, Result, Ok, Err}
 use mathlib.Core.Option.{none, some}
-use Prim.Native.Nat.{ℕ, suc, ◌+◌, ◌-◌, ◌≤◌, ◌<◌}
-use native.Mathlib.Omega.{arith}
-use lib.ListN.{length}
 use borrow.Author.Tests.{eq-eqb, ne_eqb}
-use Rattle.image.specs.Ty.{Ty, var, Tys, cons, count_of}
+use Rattle.image.specs.declared.refusal.Refusal.{Refusal}
 use Rattle.image.specs.declared.TypeId.{TypeId}
+use Rattle.image.specs.Ty.{Ty, var, Tys, cons, count_of}
 use Rattle.unifier_definition.specs.Cases.{as_var}
 use Rattle.unifier_definition.specs.Equal.{equals_some, type_equals}
 use Rattle.unifier_definition.specs.Log.{Log, lookup}
-use Rattle.unifier_definition.specs.Outcome.{Outcome, done, and_then}
+use Rattle.unifier_definition.specs.Outcome.{Outcome, done, refused, out_of_steps, and_then}
 use Rattle.unifier_definition.specs.Resolve.{occurs_in_operands, occurs_inside, occurs_body, occurs_check}
-use Rattle.unifier_nodes.specs.Work.{at, Reps, Good}
-use Rattle.unifier_nodes.specs.Walks.{ReadsNode, Known, KnownAll}
+use Rattle.unifier_nodes.specs.Work.{at, Rep, Reps, Good}
+use Rattle.unifier_nodes.specs.Walks.{Stands, ReadsNode}
+use Rattle.unifier_nodes.specs.States.{Charges}
 use Rattle.unifier_nodes.specs.Promises.{Readable, ReadableAll, OccursIs, Checks, ChecksAll}
 use Rattle.unifier_nodes.specs.declared.node.Node.{Node}
 use Rattle.unifier_nodes.specs.declared.node.Node.TheVariants.{Var, Function, Phi}
-use Rattle.unifier_nodes.specs.declared.state.Occurs.{Occurs}
-use Rattle.unifier_nodes.specs.declared.state.Occurs.TheVariants.{Spent, Yes, No}
+use Rattle.unifier_nodes.specs.declared.state.Unifier.{Unifier}
 use Rattle.unifier_definition.proofs.Fuel.{occurs_check_none, occurs_check_unfold}
-use Rattle.unifier_nodes.proofs.Getting.{Plain, PlainType, plain_prim, plain_poly, plain_method, plain_object, plain_type, is_free, is_bound, slot_bound}
+use Rattle.unifier_nodes.proofs.Getting.{Plain, PlainType, plain_prim, plain_poly, plain_method, plain_object, plain_type, is_free, bound_to, slot_bound}
 use Rattle.unifier_nodes.proofs.GetOperands.{Next, next, none_left}
 
--- what the calls ask for is what `Known` and `KnownAll` say
-pub readable_known : {w : List ℕ} {lo n : ℕ} (r : Readable w lo n) → Known w lo r.top n
-readable_known r = record { σ = r.σ; t = r.t; good = r.good; rep = r.rep }
+-- `occurs_check` of the definition, for one variable
+abbrev pub occurs_of : ℕ → Log → ℕ → Ty → Outcome Bool
+occurs_of v σ s t = occurs_check σ s v t
 
-pub known_readable : {w : List ℕ} {lo top n : ℕ} → top ≤ length w → Known w lo top n → Readable w lo n
-known_readable {top = top} f k = record { top = top; σ = k.σ; t = k.t; fits = f; good = k.good; rep = k.rep }
+-- what the calls ask for
+module _ {w : List ℕ} {lo n : ℕ} (k : Readable w lo n) where
+  pub readable_stands : Stands w lo n
+  readable_stands = record { top = k.top; t = k.t; fits = k.fits; rep = k.rep }
 
-pub known_readable_all : {w : List ℕ} {lo top a c : ℕ} → top ≤ length w → KnownAll w lo top a c → ReadableAll w lo a c
-known_readable_all {top = top} f k = record { top = top; σ = k.σ; ts = k.ts; last = k.last; fits = f; good = k.good; reps = k.reps; many = k.many }
+  module _ {s : TypeId} (h : ReadsNode w lo n (Var s)) where
+    pub readable_slot : s.0 < length w
+    readable_slot =
+        let q = h.shows k.top k.t k.fits k.rep in
+        let a = q.1 in
+        let b = q.2 in
+        let d = k.good.nodes in
+        let f = k.fits in
+        omega arith
 
--- an answer of the same outcome, with more steps at the start
-occurs_to : (r : Occurs) (σ : Log) {out out' : Outcome Bool} {l left : ℕ} → l ≤ left → out' ≡ out → OccursIs l σ r out → OccursIs left σ r out'
-occurs_to Spent σ le e h = e ∙ h
-occurs_to (Yes m) σ le e h = let b = h.1 in (e ∙ h.0, omega arith)
-occurs_to (No m) σ le e h = let b = h.1 in (e ∙ h.0, omega arith)
+    pub readable_bound : {m : ℕ} → at w s.0 ≡ m + 1 → Readable w lo m
+    readable_bound z =
+        let b = bound_to z (slot_bound k.fits h k.good k.rep) in
+        record { top = k.top; σ = k.σ; t = b.0; fits = k.fits; good = k.good; rep = b.2 }
 
--- where the definition takes its next step
-occurs_at : (σ : Log) (v : ℕ) {t t' : Ty} (left : ℕ) → (left ≡ 0 → ⊥) → t ≡ t' → occurs_check σ left v t ≡ occurs_body (λ s u. occurs_check σ s v u) σ (left - 1) v t'
-occurs_at σ v {t} {t'} left z p = ap (occurs_check σ left v) p ∙ ap (λ (x : ℕ). occurs_check σ x v t') (omega arith) ∙ occurs_check_unfold σ (left - 1) v t'
+  pub readable_func : {a s m : ℕ} → ReadsNode w lo n (Function a s m) → Readable w lo m
+  readable_func h = let q = h.shows k.top k.t k.fits k.rep in record { top = k.top; σ = k.σ; t = q.1; fits = k.fits; good = k.good; rep = q.5 }
+
+  pub readable_phi : {a c : ℕ} → ReadsNode w lo n (Phi a c) → ReadableAll w lo a c
+  readable_phi h =
+      let q = h.shows k.top k.t k.fits k.rep in
+      record { top = k.top; σ = k.σ; ts = q.0; last = n; fits = k.fits; good = k.good; reps = q.3; many = q.2 }
+
+pub readable_charged : {u x : Unifier} {n : ℕ} → Charges u x (Ok tt) → Readable u.words.now u.lo n → Readable x.words.now x.lo n
+readable_charged {n = n} c k = subst (λ (y : Unifier). Readable y.words.now y.lo n) (sym c.1) k
+
+-- an answer of the same outcome
+occurs_as : (x : Unifier) (σ : Log) (r : Result Bool Refusal) {out out' : Outcome Bool} → out' ≡ out → OccursIs x σ r out → OccursIs x σ r out'
+occurs_as x σ r e h = subst (OccursIs x σ r) (sym e) h
 
 -- the text after the charge, at each kind of type
 module _ (o : ℕ → Ty → Outcome Bool) (σ : Log) (l v : ℕ) where
@@ -68,149 +83,178 @@ module _ (o : ℕ → Ty → Outcome Bool) (σ : Log) (l v : ℕ) where
     bound_occurs e = rw (ne_eqb v x n, occurs_body, e, occurs_inside)
 
 -- no step is left
-pub checks_none : (w : List ℕ) (lo left v n : ℕ) → left ≡ 0 → Checks w lo left v n Spent
-checks_none w lo left v n z = record { is = λ top σ t f g r. ap (λ (x : ℕ). occurs_check σ x v t) z ∙ occurs_check_none σ v t }
+pub checks_spent : {u x : Unifier} {why : Refusal} (v n : ℕ) → Charges u x (Err why) → Checks u x v n (Err why)
+checks_spent {u} {x} {why} v n c =
+    let here : Checks u u v n (Err why) = record {
+      only_steps = refl;
+      fewer = omega arith;
+      is = λ top σ t f g r. (c.1, c.0, ap (λ (s : ℕ). occurs_check σ s v t) c.0 ∙ occurs_check_none σ v t);
+    } in
+    subst (λ (y : Unifier). Checks u y v n (Err why)) (sym c.2) here
 
-module _ {w : List ℕ} {lo : ℕ} (left v : ℕ) {n : ℕ} (z : left ≡ 0 → ⊥) where
-  pub checks_plain : {node : Node} → ReadsNode w lo n node → Plain node → Checks w lo left v n (No (left - 1))
-  checks_plain h p = record { is = λ top σ t f g r. (occurs_at σ v left z refl ∙ plain_occurs (λ s u. occurs_check σ s v u) σ (left - 1) v (plain_type p f h r), omega arith) }
+module _ {u x : Unifier} (c : Charges u x (Ok tt)) {v n : ℕ} where
+  -- what the text after the charge answers
+  checks_after : {y : Unifier} (r : Result Bool Refusal) → y ≡ record x { left = y.left } → y.left ≤ x.left
+      → ((top : ℕ) (σ : Log) (t : Ty) → top ≤ length x.words.now → Good x.words.now x.lo top σ → Rep x.words.now x.lo top n t
+      → OccursIs y σ r (occurs_body (occurs_of v σ) σ x.left v t)) → Checks u y v n r
+  checks_after {y} r only few h =
+      let left : x.left ≡ u.left - 1 = ap (λ (z : Unifier). z.left) c.1 in
+      let l : u.left ≡ suc x.left = let z = c.0 in omega arith in
+      let words = ap (λ (z : Unifier). z.words) c.1 in
+      let lo = ap (λ (z : Unifier). z.lo) c.1 in
+      record {
+        only_steps = only ∙ ap (λ (z : Unifier). record z { left = y.left }) c.1;
+        fewer = omega arith;
+        is = λ top σ t f g q.
+            occurs_as y σ r (ap (λ (s : ℕ). occurs_check σ s v t) l ∙ occurs_check_unfold σ x.left v t) (rw (words, lo) at (h top σ t) f g q);
+      }
 
-  module _ {s : TypeId} (h : ReadsNode w lo n (Var s)) where
-    pub checks_same : s.0 ≡ v → Checks w lo left v n (Yes (left - 1))
-    checks_same e = record {
-      is = λ top σ t f g r.
-          let q = h.shows top t f r in
-          (occurs_at σ v left z q.0 ∙ same_occurs (λ s u. occurs_check σ s v u) σ (left - 1) v n (sym e ∙ q.1), omega arith);
-    }
+  pub checks_plain : {node : Node} → ReadsNode x.words.now x.lo n node → Plain node → Checks u x v n (Ok false)
+  checks_plain h p = checks_after (Ok false) refl (omega arith) (λ top σ t f g r. plain_occurs (occurs_of v σ) σ x.left v (plain_type p f h r))
 
-    pub checks_free : (s.0 ≡ v → ⊥) → at w s.0 ≡ 0 → Checks w lo left v n (No (left - 1))
-    checks_free d b = record {
-      is = λ top σ t f g r.
-          let q = h.shows top t f r in
-          (occurs_at σ v left z q.0 ∙ free_occurs (λ s u. occurs_check σ s v u) σ (left - 1) v n (λ e. d (q.1 ∙ sym e)) (is_free b (slot_bound f h g r)), omega arith);
-    }
-
-    pub checks_bound : {a : Occurs} → (s.0 ≡ v → ⊥) → (at w s.0 ≡ 0 → ⊥) → Checks w lo (left - 1) v (at w s.0 - 1) a → Checks w lo left v n a
-    checks_bound {a} d b c = record {
-      is = λ top σ t f g r.
-          let q = h.shows top t f r in
-          let y = is_bound b (slot_bound f h g r) in
-          occurs_to a σ (omega arith) (occurs_at σ v left z q.0 ∙ bound_occurs (λ s u. occurs_check σ s v u) σ (left - 1) v n (λ e. d (q.1 ∙ sym e)) y.1)
-          (c.is top σ y.0 f g y.2);
-    }
-
-  pub checks_func : {k s m : ℕ} {a : Occurs} → ReadsNode w lo n (Function k s m) → Checks w lo (left - 1) v m a → Checks w lo left v n a
-  unfolding occurs_body occurs_inside type_equals equals_some as_var
-  checks_func {a = a} h c = record {
-    is = λ top σ t f g r.
+  module _ {s : TypeId} (h : ReadsNode x.words.now x.lo n (Var s)) where
+    pub checks_same : s.0 ≡ v → Checks u x v n (Ok true)
+    checks_same e = checks_after (Ok true) refl (omega arith) (λ top σ t f g r.
         let q = h.shows top t f r in
-        occurs_to a σ (omega arith) (occurs_at σ v left z q.2) (c.is top σ q.1 f g q.5);
-  }
+        rw q.0 (same_occurs (occurs_of v σ) σ x.left v n (sym e ∙ q.1)))
 
-  pub checks_phi : {k c : ℕ} {a : Occurs} → ReadsNode w lo n (Phi k c) → ChecksAll w lo (left - 1) v k c a → Checks w lo left v n a
-  unfolding occurs_body occurs_inside type_equals equals_some as_var
-  checks_phi {a = a} h c = record {
-    is = λ top σ t f g r.
+    pub checks_free : (s.0 ≡ v → ⊥) → at x.words.now s.0 ≡ 0 → Checks u x v n (Ok false)
+    checks_free d b = checks_after (Ok false) refl (omega arith) (λ top σ t f g r.
         let q = h.shows top t f r in
-        occurs_to a σ (omega arith) (occurs_at σ v left z q.1) (c.is top n σ q.0 f g q.3 q.2);
-  }
+        rw q.0 (free_occurs (occurs_of v σ) σ x.left v n (λ e. d (q.1 ∙ sym e)) (is_free b (slot_bound f h g r))))
 
--- what a call answered, at the variant that a `match` found
-pub checks_as : {w : List ℕ} {lo l v n : ℕ} {r r' : Occurs} → r ≡ r' → Checks w lo l v n r → Checks w lo l v n r'
-checks_as {w} {lo} {l} {v} {n} e h = subst (Checks w lo l v n) e h
+    pub checks_bound : {y : Unifier} {m : ℕ} (r : Result Bool Refusal) → (s.0 ≡ v → ⊥) → at x.words.now s.0 ≡ m + 1 → Checks x y v m r → Checks u y v n r
+    checks_bound {y} r d b a = checks_after r a.only_steps a.fewer (λ top σ t f g p.
+        let q = h.shows top t f p in
+        let z = bound_to b (slot_bound f h g p) in
+        occurs_as y σ r (ap (occurs_body (occurs_of v σ) σ x.left v) q.0 ∙ bound_occurs (occurs_of v σ) σ x.left v n (λ e. d (q.1 ∙ sym e)) z.1) (a.is top σ z.0 f g z.2))
 
--- an answer that ends the loop
-abbrev pub Ends : Occurs → Type 0
-Ends Spent = Unit {0}
-Ends (Yes m) = Unit {0}
-Ends (No m) = ⊥
+  pub checks_func : {y : Unifier} {k s m : ℕ} (r : Result Bool Refusal) → ReadsNode x.words.now x.lo n (Function k s m) → Checks x y v m r → Checks u y v n r
+  unfolding occurs_body occurs_inside type_equals equals_some as_var
+  checks_func {y} r h a = checks_after r a.only_steps a.fewer (λ top σ t f g p.
+      let q = h.shows top t f p in
+      occurs_as y σ r (ap (occurs_body (occurs_of v σ) σ x.left v) q.2) (a.is top σ q.1 f g q.5))
+
+  pub checks_phi : {y : Unifier} {k c : ℕ} (r : Result Bool Refusal) → ReadsNode x.words.now x.lo n (Phi k c) → ChecksAll x y v k c r → Checks u y v n r
+  unfolding occurs_body occurs_inside type_equals equals_some as_var
+  checks_phi {y} r h a = checks_after r a.only_steps a.fewer (λ top σ t f g p.
+      let q = h.shows top t f p in
+      occurs_as y σ r (ap (occurs_body (occurs_of v σ) σ x.left v) q.1) (a.is top n σ q.0 f g q.3 q.2))
 
 -- the operands to come
-pub record Rest (w : List ℕ) (lo top last left v a c : ℕ) (σ : Log) (ts : Tys) (l k : ℕ) : Type 0 where
+pub record Rest (u x : Unifier) (top last v a c : ℕ) (σ : Log) (ts : Tys) (k : ℕ) : Type 0 where
   pub us : Tys
-  pub so_far : occurs_in_operands (λ s t. occurs_check σ s v t) left ts ≡ occurs_in_operands (λ s t. occurs_check σ s v t) l us
+  pub so_far : occurs_in_operands (occurs_of v σ) u.left ts ≡ occurs_in_operands (occurs_of v σ) x.left us
   pub to_come : c ≡ k + count_of us
-  pub operands : Reps w lo top last top (a + k) us
+  pub operands : Reps u.words.now u.lo top last top (a + k) us
 
 -- the loop after k operands
-pub record Trying (w : List ℕ) (lo left v a c l k : ℕ) : Type 0 where
+pub record Trying (u x : Unifier) (v a c k : ℕ) : Type 0 where
   pub upto : k ≤ c
-  pub fewer : l ≤ left
-  pub means : (top last : ℕ) (σ : Log) (ts : Tys) → top ≤ length w → Good w lo top σ → Reps w lo top last top a ts → c ≡ count_of ts
-      → Rest w lo top last left v a c σ ts l k
+  pub only_steps : x ≡ record u { left = x.left }
+  pub fewer : x.left ≤ u.left
+  pub means : (top last : ℕ) (σ : Log) (ts : Tys) → top ≤ length u.words.now → Good u.words.now u.lo top σ → Reps u.words.now u.lo top last top a ts → c ≡ count_of ts
+      → Rest u x top last v a c σ ts k
 
-pub trying_none : (w : List ℕ) (lo left v a c : ℕ) → Trying w lo left v a c left 0
-trying_none w lo left v a c = record {
+pub trying_none : (u : Unifier) (v a c : ℕ) → Trying u u v a c 0
+trying_none u v a c = record {
   upto = omega arith;
+  only_steps = refl;
   fewer = omega arith;
-  means = λ top last σ ts f g r e. record { us = ts; so_far = refl; to_come = omega arith; operands = subst (λ (x : ℕ). Reps w lo top last top x ts) (omega arith) r };
+  means = λ top last σ ts f g r e. record {
+    us = ts;
+    so_far = refl;
+    to_come = omega arith;
+    operands = subst (λ (x : ℕ). Reps u.words.now u.lo top last top x ts) (omega arith) r;
+  };
 }
 
-module _ (o : ℕ → Ty → Outcome Bool) (σ : Log) (l : ℕ) (t : Ty) (ts : Tys) where
-  operand_ends : (r : Occurs) → Ends r → OccursIs l σ r (o l t) → OccursIs l σ r (occurs_in_operands o l (cons t ts))
+module _ (o : ℕ → Ty → Outcome Bool) (l : ℕ) (t : Ty) (ts : Tys) where
+  operand_found : {m : ℕ} → o l t ≡ done true m → occurs_in_operands o l (cons t ts) ≡ done true m
   unfolding occurs_in_operands and_then
-  operand_ends Spent x h = ap (λ q. and_then q (λ b s₁. elim b [ true ↦ done true s₁ | false ↦ occurs_in_operands o s₁ ts ])) h
-  operand_ends (Yes m) x h = (ap (λ q. and_then q (λ b s₁. elim b [ true ↦ done true s₁ | false ↦ occurs_in_operands o s₁ ts ])) h.0, h.1)
-  operand_ends (No m) x h = absurd x
+  operand_found h = ap (λ q. and_then q (λ b s₁. elim b [ true ↦ done true s₁ | false ↦ occurs_in_operands o s₁ ts ])) h
+
+  operand_refused : {σ : Log} → o l t ≡ refused out_of_steps 0 σ → occurs_in_operands o l (cons t ts) ≡ refused out_of_steps 0 σ
+  unfolding occurs_in_operands and_then
+  operand_refused h = ap (λ q. and_then q (λ b s₁. elim b [ true ↦ done true s₁ | false ↦ occurs_in_operands o s₁ ts ])) h
 
   operand_passes : {m : ℕ} → o l t ≡ done false m → occurs_in_operands o l (cons t ts) ≡ occurs_in_operands o m ts
   unfolding occurs_in_operands and_then
   operand_passes h = ap (λ q. and_then q (λ b s₁. elim b [ true ↦ done true s₁ | false ↦ occurs_in_operands o s₁ ts ])) h
 
-module _ {w : List ℕ} {lo left v a c l k : ℕ} (T : Trying w lo left v a c l k) (lt : k < c) where
-  following : {top last : ℕ} {σ : Log} {ts : Tys} (R : Rest w lo top last left v a c σ ts l k) → Next w lo top last (a + k) R.us
+module _ {u x : Unifier} {v a c k : ℕ} (T : Trying u x v a c k) (lt : k < c) where
+  following : {top last : ℕ} {σ : Log} {ts : Tys} (R : Rest u x top last v a c σ ts k) → Next u.words.now u.lo top last (a + k) R.us
   following R = let e = R.to_come in next (omega arith) R.operands
 
-  pub trying_ends : {r : Occurs} → Ends r → Checks w lo l v (at w (a + k)) r → ChecksAll w lo left v a c r
-  trying_ends {r} x h = record {
-    is = λ top last σ ts f g q e.
-        let R = T.means top last σ ts f g q e in
-        let N = following R in
-        let o : ℕ → Ty → Outcome Bool = λ s t. occurs_check σ s v t in
-        occurs_to r σ T.fewer (R.so_far ∙ ap (occurs_in_operands o l) N.is) (operand_ends o σ l N.u N.vs r x (h.is top σ N.u f g N.rep));
-  }
+  -- the call for it, over the words as they were at the start
+  called : {y : Unifier} {r : Result Bool Refusal} → Checks x y v (at x.words.now (a + k)) r → Checks (record u { left = x.left }) y v (at u.words.now (a + k)) r
+  called {y} {r} h = subst (λ (z : Unifier). Checks z y v (at z.words.now (a + k)) r) T.only_steps h
 
-  pub trying_more : {m : ℕ} → Checks w lo l v (at w (a + k)) (No m) → ReadableAll w lo a c → Trying w lo left v a c m (k + 1)
-  unfolding count_of
-  trying_more {m} h y =
-      let b = T.fewer in
-      let R₀ = T.means y.top y.last y.σ y.ts y.fits y.good y.reps y.many in
-      let N₀ = following R₀ in
-      let d = (h.is y.top y.σ N₀.u y.fits y.good N₀.rep).1 in
-      record {
-        upto = omega arith;
-        fewer = omega arith;
-        means = λ top last σ ts f g q e.
-            let R = T.means top last σ ts f g q e in
-            let N = following R in
-            let o : ℕ → Ty → Outcome Bool = λ s t. occurs_check σ s v t in
-            let tc = R.to_come in
-            let cnt : count_of R.us ≡ suc (count_of N.vs) = ap count_of N.is in
-            record {
-              us = N.vs;
-              so_far = R.so_far ∙ ap (occurs_in_operands o l) N.is ∙ operand_passes o σ l N.u N.vs (h.is top σ N.u f g N.rep).0;
-              to_come = omega arith;
-              operands = subst (λ (y : ℕ). Reps w lo top last top y N.vs) (omega arith) N.after;
-            };
-      }
+  -- the loop ends at this operand
+  module _ {y : Unifier} where
+    trying_ends : (r : Result Bool Refusal) → Checks x y v (at x.words.now (a + k)) r
+        → ((σ : Log) (t : Ty) (ts : Tys) → OccursIs y σ r (occurs_of v σ x.left t) → OccursIs y σ r (occurs_in_operands (occurs_of v σ) x.left (cons t ts))) → ChecksAll u y v a c r
+    trying_ends r h ends =
+        let h' = called h in
+        let few = h'.fewer in
+        let few' = T.fewer in
+        record {
+          only_steps = h'.only_steps;
+          fewer = omega arith;
+          is = λ top last σ ts f g q e.
+              let R = T.means top last σ ts f g q e in
+              let N = following R in
+              occurs_as y σ r (R.so_far ∙ ap (occurs_in_operands (occurs_of v σ) x.left) N.is) (ends σ N.u N.vs (h'.is top σ N.u f g N.rep));
+        }
 
-  pub trying_readable : ReadableAll w lo a c → Readable w lo (at w (a + k))
+    pub trying_found : Checks x y v (at x.words.now (a + k)) (Ok true) → ChecksAll u y v a c (Ok true)
+    trying_found h = trying_ends (Ok true) h (λ σ t ts e. operand_found (occurs_of v σ) x.left t ts e)
+
+    pub trying_refused : {why : Refusal} → Checks x y v (at x.words.now (a + k)) (Err why) → ChecksAll u y v a c (Err why)
+    trying_refused {why} h = trying_ends (Err why) h (λ σ t ts e. (e.0, e.1, operand_refused (occurs_of v σ) x.left t ts e.2))
+
+    pub trying_more : Checks x y v (at x.words.now (a + k)) (Ok false) → Trying u y v a c (k + 1)
+    unfolding count_of
+    trying_more h =
+        let h' = called h in
+        let few = h'.fewer in
+        let few' = T.fewer in
+        record {
+          upto = omega arith;
+          only_steps = h'.only_steps;
+          fewer = omega arith;
+          means = λ top last σ ts f g q e.
+              let R = T.means top last σ ts f g q e in
+              let N = following R in
+              let tc = R.to_come in
+              let cnt : count_of R.us ≡ suc (count_of N.vs) = ap count_of N.is in
+              record {
+                us = N.vs;
+                so_far = R.so_far ∙ ap (occurs_in_operands (occurs_of v σ) x.left) N.is ∙ operand_passes (occurs_of v σ) x.left N.u N.vs (h'.is top σ N.u f g N.rep);
+                to_come = omega arith;
+                operands = subst (λ (y : ℕ). Reps u.words.now u.lo top last top y N.vs) (omega arith) N.after;
+              };
+        }
+
+  pub trying_readable : ReadableAll u.words.now u.lo a c → Readable x.words.now x.lo (at x.words.now (a + k))
   trying_readable y =
       let N = following (T.means y.top y.last y.σ y.ts y.fits y.good y.reps y.many) in
-      record { top = y.top; σ = y.σ; t = N.u; fits = y.fits; good = y.good; rep = N.rep }
+      subst (λ (z : Unifier). Readable z.words.now z.lo (at z.words.now (a + k))) (sym T.only_steps) (record { top = y.top; σ = y.σ; t = N.u; fits = y.fits; good = y.good; rep = N.rep })
 
-  pub trying_word : ReadableAll w lo a c → a + k < length w
+  pub trying_word : ReadableAll u.words.now u.lo a c → a + k < length x.words.now
   trying_word y =
       let i = (following (T.means y.top y.last y.σ y.ts y.fits y.good y.reps y.many)).inside in
       let f = y.fits in
-      omega arith
+      subst (λ (z : Unifier). a + k < length z.words.now) (sym T.only_steps) (omega arith)
 
-pub trying_done : {w : List ℕ} {lo left v a c l k : ℕ} → Trying w lo left v a c l k → c ≤ k → ChecksAll w lo left v a c (No l)
+pub trying_done : {u x : Unifier} {v a c k : ℕ} → Trying u x v a c k → c ≤ k → ChecksAll u x v a c (Ok false)
 unfolding occurs_in_operands
-trying_done {v = v} {l = l} T ge = record {
+trying_done {x = x} {v = v} T ge = record {
+  only_steps = T.only_steps;
+  fewer = T.fewer;
   is = λ top last σ ts f g q e.
       let R = T.means top last σ ts f g q e in
-      let u = T.upto in
+      let up = T.upto in
       let tc = R.to_come in
-      (R.so_far ∙ ap (occurs_in_operands (λ s t. occurs_check σ s v t) l) (none_left R.us (omega arith)), T.fewer);
+      R.so_far ∙ ap (occurs_in_operands (occurs_of v σ) x.left) (none_left R.us (omega arith));
 }

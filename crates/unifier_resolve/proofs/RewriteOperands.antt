@@ -1,27 +1,24 @@
 -- The loop of `try_resolve_type` over operands: what holds after k of them, and what it gives at the end. Assumes nothing.
-use mathlib.Core.Path.{◌≡◌, refl, sym, ap, ◌∙◌, subst}
-use mathlib.Core.Bool.{true, false}
-use mathlib.Core.List.{List}
+use Rattle.std.proofs.Common.{◌≡◌, refl, sym, ap, ◌∙◌, subst, true, false, ℕ, suc, ◌+◌, ◌*◌, ◌-◌, ◌≤◌, ◌<◌, arith, List, set, Ok, Err}
+use Rattle.std.proofs.Math.ListN.{length-set}
 use mathlib.Core.Option.{none}
-use Prim.Native.Nat.{ℕ, suc, ◌+◌, ◌*◌, ◌≤◌, ◌<◌}
-use native.Mathlib.Omega.{arith}
-use lib.ListN.{set, length-set}
 use borrow.Author.Tests.{eq-eqb, ne_eqb}
+use Rattle.image.specs.declared.refusal.Refusal.{Refusal}
 use Rattle.image.specs.Ty.{Ty, Tys, nil, cons, count_of}
 use Rattle.unifier_definition.specs.Cases.{as_var}
 use Rattle.unifier_definition.specs.Equal.{equals_some}
 use Rattle.unifier_definition.specs.Log.{Log}
-use Rattle.unifier_definition.specs.Outcome.{Refusal, Outcome, done, refused, and_then}
+use Rattle.unifier_definition.specs.Outcome.{Refusal as Due, Outcome, done, refused, and_then}
 use Rattle.unifier_definition.specs.Resolve.{Resolved, resolve_operands}
-use Rattle.unifier_nodes.specs.Work.{at, Leaf, leaf_prim, leaf_poly, leaf_method, leaf_object, Rep, rep_var, rep_leaf, rep_func, rep_phi, Reps, reps_nil, Good, Room, Frame}
-use Rattle.unifier_nodes.specs.Walks.{Known, KnownAll}
-use Rattle.unifier_nodes.specs.Promises.{Rewrites, RewritesAll}
-use Rattle.unifier_nodes.specs.declared.state.Got.{Got}
-use Rattle.unifier_nodes.specs.declared.state.State.{State}
+use Rattle.unifier_nodes.specs.Work.{at, Leaf, leaf_prim, leaf_poly, leaf_method, leaf_object, Rep, rep_var, rep_leaf, rep_func, rep_phi, Reps, reps_nil}
+use Rattle.unifier_nodes.specs.States.{GoodIn, RepIn, RoomIn, Known, KnownAll, Keeps, with_words}
+use Rattle.unifier_nodes.specs.Promises.{GivenAll, Rewrites, RewritesAll}
+use Rattle.unifier_nodes.specs.declared.state.Unifier.{Unifier}
 use Rattle.unifier_nodes.proofs.Words.{at_same, at_other}
-use Rattle.unifier_nodes.proofs.Frames.{rep_same, reps_same, rep_low, good_same, frame_refl, frame_trans}
+use Rattle.unifier_nodes.proofs.Frames.{rep_same, reps_same, rep_low, good_same}
 use Rattle.unifier_nodes.proofs.Nodes.{is_var}
-use Rattle.unifier_nodes.proofs.GetOperands.{snoc, append, append_snoc, append-nil, count_snoc, reps_snoc, Next, next, none_left, turn}
+use Rattle.unifier_nodes.proofs.Promised.{keeps_refl}
+use Rattle.unifier_nodes.proofs.GetOperands.{snoc, append, append_snoc, append-nil, count_snoc, reps_snoc, Next, next, none_left, in_hand, hand_back, keeps_hand, room_hand}
 use Rattle.unifier_nodes.proofs.Mentioning.{next_place}
 use Rattle.unifier_resolve.proofs.Rewriting.{resolve_with}
 
@@ -59,7 +56,7 @@ module _ (r : Log → ℕ → Ty → Outcome (Resolved Ty)) (rs : Tys) (σ : Log
     unfolding and_then
     operand_done {p} {l'} d = operand_first d ∙ prepend_snoc rs p.value (resolve_operands r p.log l' v ts)
 
-    operand_refused : {why : Refusal} {l' : ℕ} {σ' : Log} → r σ l t ≡ refused why l' σ' → prepend rs (resolve_operands r σ l v us) ≡ refused why l' σ'
+    operand_refused : {why : Due} {l' : ℕ} {σ' : Log} → r σ l t ≡ refused why l' σ' → prepend rs (resolve_operands r σ l v us) ≡ refused why l' σ'
     unfolding prepend and_then
     operand_refused d = operand_first d
 
@@ -83,209 +80,192 @@ other z (rep_func c o h k a b m r) = refl
 other z (rep_phi o h k a b r) = refl
 
 -- of the operands, the results of those that are done with the log after them, and those that are to come
-pub record Part (w₀ w : List ℕ) (lo left₀ top₀ stack v a c last : ℕ) (σ : Log) (ts : Tys) (left top made k : ℕ) : Type 0 where
+pub record Part (u x : Unifier) (v a c last : ℕ) (σ : Log) (ts : Tys) (made k : ℕ) : Type 0 where
   pub rs : Tys
   pub us : Tys
   pub log : Log
-  pub so_far : resolve_operands (resolve_with v) σ left₀ v ts ≡ prepend rs (resolve_operands (resolve_with v) log left v us)
+  pub so_far : resolve_operands (resolve_with v) σ u.left v ts ≡ prepend rs (resolve_operands (resolve_with v) log x.left v us)
   pub did : count_of rs ≡ made
   pub to_come : c ≡ k + count_of us
-  pub good : Good w lo top log
-  pub results : Reps w lo top top (stack + made) stack rs
-  pub operands : Reps w₀ lo top₀ last top₀ (a + k) us
+  pub good : GoodIn x log
+  pub results : Reps x.words.now x.lo x.top x.top (x.stack + made) x.stack rs
+  pub operands : Reps u.words.now u.lo u.top last u.top (a + k) us
 
 -- the loop after k operands, of which so many results stand from the stack on
-pub record Rewriting (w₀ w : List ℕ) (lo left₀ top₀ stack v a c left top made k : ℕ) : Type 0 where
+pub record Rewriting (u x : Unifier) (v a c made k : ℕ) : Type 0 where
   pub upto : k ≤ c
-  pub frame : Frame w₀ w lo top₀ top stack left₀
-  pub fewer : left + made ≤ left₀
-  pub spare : top + 4 * left + made ≤ top₀ + 4 * left₀
-  pub means : (last : ℕ) (σ : Log) (ts : Tys) → Good w₀ lo top₀ σ → Reps w₀ lo top₀ last top₀ a ts → c ≡ count_of ts
-      → Part w₀ w lo left₀ top₀ stack v a c last σ ts left top made k
+  pub keeps : Keeps u.lo u x
+  pub fewer : x.left + made ≤ u.left
+  pub spare : x.top + 4 * x.left + made ≤ u.top + 4 * u.left
+  pub means : (σ : Log) (ts : Tys) → GoodIn u σ → (p : GivenAll a c u ts) → Part u x v a c p.0 σ ts made k
 
-pub rewriting_none : (w : List ℕ) (lo : ℕ) (st : State) (v a c : ℕ) → Rewriting w w lo st.left st.top st.stack v a c st.left st.top 0 0
+pub rewriting_none : (u : Unifier) (v a c : ℕ) → Rewriting u u v a c 0 0
 unfolding count_of
-rewriting_none w lo st v a c = record {
+rewriting_none u v a c = record {
   upto = omega arith;
-  frame = frame_refl w lo st.top st.stack st.left;
+  keeps = keeps_refl u.lo u;
   fewer = omega arith;
   spare = omega arith;
-  means = λ last σ ts g r e. record {
+  means = λ σ ts g p. record {
     rs = nil;
     us = ts;
     log = σ;
-    so_far = sym (prepend_nil (resolve_operands (resolve_with v) σ st.left v ts));
+    so_far = sym (prepend_nil (resolve_operands (resolve_with v) σ u.left v ts));
     did = refl;
-    to_come = omega arith;
+    to_come = let e = p.2 in omega arith;
     good = g;
     results = reps_nil;
-    operands = subst (λ (x : ℕ). Reps w lo st.top last st.top x ts) (omega arith) r;
+    operands = subst (λ (x : ℕ). Reps u.words.now u.lo u.top p.0 u.top x ts) (omega arith) p.1;
   };
 }
 
-module _ {w₀ w : List ℕ} {lo : ℕ} (st : State) {v a c left top made k : ℕ} (W : Rewriting w₀ w lo st.left st.top st.stack v a c left top made k) (lt : k < c) where
-  here : {last : ℕ} {σ : Log} {ts : Tys} (P : Part w₀ w lo st.left st.top st.stack v a c last σ ts left top made k) → Next w₀ lo st.top last (a + k) P.us
+module _ {u x : Unifier} {v a c made k : ℕ} (W : Rewriting u x v a c made k) (lt : k < c) where
+  here : {last : ℕ} {σ : Log} {ts : Tys} (P : Part u x v a c last σ ts made k) → Next u.words.now u.lo u.top last (a + k) P.us
   here P = let e = P.to_come in next (omega arith) P.operands
 
-  there : {last : ℕ} {σ : Log} {ts : Tys} (P : Part w₀ w lo st.left st.top st.stack v a c last σ ts left top made k) → Rep w lo top (at w (a + k)) (here P).u
+  there : {last : ℕ} {σ : Log} {ts : Tys} (P : Part u x v a c last σ ts made k) → RepIn x (at x.words.now (a + k)) (here P).u
   there P =
       let N = here P in
-      let f = W.frame in
+      let f = W.keeps.frame in
       let e = P.to_come in
-      rw (f.below (a + k) (next_place (omega arith) P.operands).0 N.inside) (rep_same w top f.grows f.below N.rep)
+      subst (λ (l : ℕ). Rep x.words.now l x.top (at x.words.now (a + k)) N.u) (sym W.keeps.lo)
+      (rw (f.below (a + k) (next_place (omega arith) P.operands).0 N.inside) (rep_same x.words.now x.top f.grows f.below N.rep))
 
   -- the variable itself is skipped
-  pub rewriting_skipped : v < lo → at w (a + k) ≡ v → Rewriting w₀ w lo st.left st.top st.stack v a c left top made (k + 1)
+  pub rewriting_skipped : v < u.lo → at x.words.now (a + k) ≡ v → Rewriting u x v a c made (k + 1)
   unfolding count_of
   rewriting_skipped low h = record {
     upto = omega arith;
-    frame = W.frame;
+    keeps = W.keeps;
     fewer = W.fewer;
     spare = W.spare;
-    means = λ last σ ts G r e.
-        let P = W.means last σ ts G r e in
+    means = λ σ ts G p.
+        let P = W.means σ ts G p in
         let N = here P in
         let tc = P.to_come in
         let cnt : count_of P.us ≡ suc (count_of N.vs) = ap count_of N.is in
+        let lo = W.keeps.lo in
         record {
           rs = P.rs;
           us = N.vs;
           log = P.log;
-          so_far = P.so_far ∙ operand_skipped (resolve_with v) P.rs P.log left v N.is (itself low h (there P));
+          so_far = P.so_far ∙ operand_skipped (resolve_with v) P.rs P.log x.left v N.is (itself (omega arith) h (there P));
           did = P.did;
           to_come = omega arith;
           good = P.good;
           results = P.results;
-          operands = subst (λ (y : ℕ). Reps w₀ lo st.top last st.top y N.vs) (omega arith) N.after;
+          operands = subst (λ (y : ℕ). Reps u.words.now u.lo u.top p.0 u.top y N.vs) (omega arith) N.after;
         };
   }
 
-  module _ {u : List ℕ} {g : Got} (ne : at w (a + k) ≡ v → ⊥) (h : Rewrites w u lo (turn st left top made) v (at w (a + k)) g) where
+  module _ {y : Unifier} (ne : at x.words.now (a + k) ≡ v → ⊥) where
     -- a refusal at this operand
-    pub rewriting_refused : (g.refused ≡ 0 → ⊥) → RewritesAll w₀ u lo st v a c g
-    rewriting_refused f =
-        let x = W.fewer in
-        let y = W.spare in
-        let p = h.paid.fewer in
-        let q = h.paid.spent in
-        record {
-          frame = frame_trans (omega arith) (omega arith) W.frame h.frame;
-          paid = record { fewer = omega arith; spent = omega arith };
-          made = λ e. absurd (f e);
-          spare = λ e. absurd (f e);
-          means = λ last σ ts G r e.
-              let P = W.means last σ ts G r e in
-              let N = here P in
-              let R = (h.means P.log N.u P.good (there P)).ended f in
-              record {
-                finished = λ e. absurd (f e);
-                ended = λ e. record {
-                  why = R.why;
-                  log = R.log;
-                  is = P.so_far ∙ operand_refused (resolve_with v) P.rs P.log left v N.is (other ne (there P)) R.is;
-                  by_number = R.by_number;
-                  good = R.good;
-                };
-              };
-        }
+    pub rewriting_refused : {why : Refusal} → Rewrites (in_hand x made) v (at x.words.now (a + k)) y (Err why) → RewritesAll u v a c (hand_back y made) (Err why)
+    rewriting_refused h = record {
+      keeps = keeps_hand made W.fewer W.keeps (subst (λ (l : ℕ). Keeps l (in_hand x made) y) W.keeps.lo h.keeps);
+      spare = tt;
+      means = λ σ ts G p.
+          let P = W.means σ ts G p in
+          let N = here P in
+          let R = h.means P.log N.u P.good (there P) in
+          record {
+            why = R.why;
+            log = R.log;
+            is = P.so_far ∙ operand_refused (resolve_with v) P.rs P.log x.left v N.is (other ne (there P)) R.is;
+            by_number = R.by_number;
+            good = R.good;
+          };
+    }
 
     -- one more result
-    pub rewriting_more : g.refused ≡ 0 → Room w₀ st.top st.left st.stack
-        → Rewriting w₀ (set u (st.stack + made) g.node) lo st.left st.top st.stack v a c g.left g.top (made + 1) (k + 1)
+    pub rewriting_more : {m : ℕ} → RoomIn u → Rewrites (in_hand x made) v (at x.words.now (a + k)) y (Ok m)
+        → Rewriting u (with_words (hand_back y made) (set y.words.now (y.stack - made + made) m)) v a c (made + 1) (k + 1)
     unfolding count_of
-    rewriting_more f room =
-        let x : List ℕ = set u (st.stack + made) g.node in
-        let F = W.frame in
-        let H = h.frame in
+    rewriting_more {m} room h =
+        let at_hand : ℕ = y.stack - made + made in
+        let z : List ℕ = set y.words.now at_hand m in
+        let K = keeps_hand made W.fewer W.keeps (subst (λ (l : ℕ). Keeps l (in_hand x made) y) W.keeps.lo h.keeps) in
+        let T = K.frame in
+        let F = W.keeps.frame in
+        let H = h.keeps.frame in
         let g₁ = F.grows in
         let g₂ = H.grows in
         let len₁ = F.len in
         let len₂ = H.len in
+        let st₁ = W.keeps.stack in
+        let st₂ = h.keeps.stack in
         let few = W.fewer in
-        let few' = h.fewer f in
+        let (few', sp') = h.spare in
         let sp = W.spare in
-        let sp' = h.spare f in
         let hp = room.heap in
         let hd = room.hand in
-        let keep : (j : ℕ) → (j ≡ st.stack + made → ⊥) → at x j ≡ at u j = λ j z. at_other u (st.stack + made) j g.node z in
-        let T = frame_trans {left = st.left} (omega arith) (omega arith) F H in
+        let lo₁ = W.keeps.lo in
+        let lo₂ = h.keeps.lo in
+        let keep : (j : ℕ) → (j ≡ at_hand → ⊥) → at z j ≡ at y.words.now j = λ j i. at_other y.words.now at_hand j m i in
         record {
           upto = omega arith;
-          frame = record {
-            len = length-set u (st.stack + made) g.node ∙ T.len;
-            grows = T.grows;
-            below = λ j o b. keep j (omega arith) ∙ T.below j o b;
-            above = λ j o b. keep j (omega arith) ∙ T.above j o b;
-            beyond = λ j o. keep j (omega arith) ∙ T.beyond j o;
+          keeps = record {
+            same = K.same;
+            lo = K.lo;
+            stack = K.stack;
+            frame = record {
+              len = length-set y.words.now at_hand m ∙ T.len;
+              grows = T.grows;
+              below = λ j o b. keep j (omega arith) ∙ T.below j o b;
+              above = λ j o b. keep j (omega arith) ∙ T.above j o b;
+              beyond = λ j o. keep j (omega arith) ∙ T.beyond j o;
+            };
+            paid = K.paid;
           };
           fewer = omega arith;
           spare = omega arith;
-          means = λ last σ ts G r e.
-              let P = W.means last σ ts G r e in
+          means = λ σ ts G p.
+              let P = W.means σ ts G p in
               let N = here P in
-              let B = (h.means P.log N.u P.good (there P)).finished f in
+              let B = h.means P.log N.u P.good (there P) in
               let did = P.did in
               let lo≤ = G.nodes in
               let tc = P.to_come in
               let cnt : count_of P.us ≡ suc (count_of N.vs) = ap count_of N.is in
-              let low = rep_low (omega arith) B.3 in
+              let low = rep_low (omega arith) B.2.1 in
               record {
                 rs = snoc P.rs B.0.value;
                 us = N.vs;
                 log = B.0.log;
-                so_far = P.so_far ∙ operand_done (resolve_with v) P.rs P.log left v N.is (other ne (there P)) B.1;
+                so_far = P.so_far ∙ operand_done (resolve_with v) P.rs P.log x.left v N.is (other ne (there P)) B.1;
                 did = count_snoc P.rs B.0.value ∙ omega arith;
                 to_come = omega arith;
-                good = good_same x g.top (omega arith) (λ j o b. keep j (omega arith)) B.2;
-                results = reps_snoc (st.stack + made) g.node (omega arith) (omega arith) (omega arith) (at_same u (st.stack + made) g.node (omega arith)) low
-                    (rep_same x g.top (omega arith) (λ j o b. keep j (omega arith)) B.3)
-                    (reps_same x g.top g₂ (λ j o b. keep j (omega arith) ∙ H.below j o b) st.stack g.top (st.stack + (made + 1)) (omega arith) (omega arith) (omega arith)
-                    (λ j from o b. keep j (omega arith) ∙ H.above j (omega arith) b) P.results);
-                operands = subst (λ (y : ℕ). Reps w₀ lo st.top last st.top y N.vs) (omega arith) N.after;
+                good = good_same z y.top (omega arith) (λ j o b. keep j (omega arith)) B.2.0;
+                results = reps_snoc at_hand m (omega arith) (omega arith) (omega arith) (at_same y.words.now at_hand m (omega arith)) low
+                    (rep_same z y.top (omega arith) (λ j o b. keep j (omega arith)) B.2.1)
+                    (rw lo₂ (reps_same z y.top g₂ (λ j o b. keep j (omega arith) ∙ H.below j o b) x.stack y.top (y.stack - made + (made + 1)) (omega arith) (omega arith) (omega arith)
+                    (λ j from o b. keep j (omega arith) ∙ H.above j (omega arith) (omega arith)) (subst (λ (q : ℕ). Reps x.words.now x.lo x.top x.top (x.stack + made) q P.rs) (omega arith) P.results)));
+                operands = subst (λ (q : ℕ). Reps u.words.now u.lo u.top p.0 u.top q N.vs) (omega arith) N.after;
               };
         }
 
-  pub rewriting_known : KnownAll w₀ lo st.top a c → Known w lo top (at w (a + k))
+  pub rewriting_known : KnownAll u a c → Known (in_hand x made) (at x.words.now (a + k))
   rewriting_known K =
-      let P = W.means K.last K.σ K.ts K.good K.reps K.many in
-      record { σ = P.log; t = (here P).u; good = P.good; rep = there P }
+      let P = W.means K.σ K.ts K.good (K.last, K.reps, K.many) in
+      record { room = room_hand made W.keeps W.fewer W.spare K.room; σ = P.log; t = (here P).u; good = P.good; rep = there P }
 
-  pub rewriting_word : KnownAll w₀ lo st.top a c → a + k < st.top
-  rewriting_word K = (here (W.means K.last K.σ K.ts K.good K.reps K.many)).inside
+  pub rewriting_word : KnownAll u a c → a + k < u.top
+  rewriting_word K = (here (W.means K.σ K.ts K.good (K.last, K.reps, K.many))).inside
 
-  pub rewriting_room : Room w₀ st.top st.left st.stack → Room w top left (st.stack + made)
-  rewriting_room room =
-      let few = W.fewer in
-      let sp = W.spare in
-      let len = W.frame.len in
-      let hp = room.heap in
-      let hd = room.hand in
-      let sm = room.small in
-      record { heap = omega arith; hand = omega arith; small = omega arith }
-
-pub rewriting_done : {w₀ w : List ℕ} {lo : ℕ} (st : State) {v a c left top made k : ℕ} → Rewriting w₀ w lo st.left st.top st.stack v a c left top made k → c ≤ k
-    → RewritesAll w₀ w lo st v a c (record { node = made; left = left; top = top; refused = 0 })
+pub rewriting_done : {u x : Unifier} {v a c made k : ℕ} → Rewriting u x v a c made k → c ≤ k → RewritesAll u v a c x (Ok made)
 unfolding prepend resolve_operands and_then
-rewriting_done {w₀} {w} {lo} st {v} {a} {c} {left} {top} {made} {k} W ge =
+rewriting_done {u} {x} {v} {a} {c} {made} {k} W ge =
     let few = W.fewer in
     let sp = W.spare in
     record {
-      frame = W.frame;
-      paid = record { fewer = omega arith; spent = omega arith };
-      made = λ e. omega arith;
-      spare = λ e. omega arith;
-      means = λ last σ ts G r e.
-          let P = W.means last σ ts G r e in
-          let tc = P.to_come in
-          record {
-            finished = λ z. (
-              record { value = P.rs; log = P.log },
-              P.so_far ∙ ap (λ (y : Tys). prepend P.rs (resolve_operands (resolve_with v) P.log left v y)) (none_left P.us (omega arith))
-                  ∙ ap (λ (y : Tys). done (record { value = y; log = P.log }) left) (append-nil P.rs),
-              P.good,
-              sym P.did,
-              P.results,
-            );
-            ended = λ z. absurd (z refl);
-          };
+      keeps = W.keeps;
+      spare = (few, sp);
+      means = λ σ ts G p.
+          let P = W.means σ ts G p in
+          let tc = P.to_come in (
+            record { value = P.rs; log = P.log },
+            P.so_far ∙ ap (λ (y : Tys). prepend P.rs (resolve_operands (resolve_with v) P.log x.left v y)) (none_left P.us (omega arith))
+                ∙ ap (λ (y : Tys). done (record { value = y; log = P.log }) x.left) (append-nil P.rs),
+            (P.good, (sym P.did, P.results)),
+          );
     }

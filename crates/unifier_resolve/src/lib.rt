@@ -1,354 +1,183 @@
 // get, occurs_check and try_resolve_type.
 #![tactic(auto)]
 
-ghost use Rattle.std.specs.Prelude.{◌≡◌, ◌+◌, ◌≤◌, ◌<◌, length};
+ghost use Rattle.std.specs.Prelude.{◌≡◌, ◌<◌};
 ghost use Rattle.unifier_definition.specs.Resolve.{try_resolve_type, resolve_var};
-ghost use Rattle.unifier_nodes.specs.Work.{Room};
-ghost use Rattle.unifier_nodes.specs.Walks.{Known, KnownAll, Copied, RoomFor, MadeFunction, MadePhi};
-ghost use Rattle.unifier_nodes.specs.Promises.{Gives, GivesAll, Rewrites, RewritesAll, ResolvesGot, Readable, ReadableAll, Checks, ChecksAll};
+ghost use Rattle.unifier_nodes.specs.States.{Makes, MakesPhi, RoomFor, Known, KnownAll};
+ghost use Rattle.unifier_nodes.specs.Promises.{Gives, GivesAll, Readable, ReadableAll, Checks, ChecksAll, Rewrites, RewritesAll, ResolvesBy};
 
-use image::{TypeId, refusals, type_kinds};
-use unifier_nodes::node::{NODE_WORDS, Node, node_at, put_node, type_equals};
-use unifier_nodes::state::{Got, Occurs, State};
+use image::refusal::Refusal;
+use image::{TypeId, type_kinds};
+use unifier_nodes::node::{NODE_WORDS, Node, put_node};
+use unifier_nodes::state::Unifier;
 
-fn finished(node: u32, left: u32, top: u32) -> Got
-    ensures { result ≡ record { node = node; left = left; top = top; refused = 0 } }
+// Makes a node of these words.
+fn make_node(unifier: &mut Unifier, kind: u32, a: u32, b: u32) -> u32
+    requires { RoomFor unifier.old 0 }
+    ensures { Makes unifier.old kind a b unifier.new result }
 {
-    Got {
-        node,
-        left,
-        top,
-        refused: 0,
-    }
+    let node = unifier.top;
+    put_node(unifier.words, node, kind, a, b);
+    unifier.top = node + NODE_WORDS;
+    node
 }
 
-// No step is left for an entry.
-fn spent(top: u32) -> Got
-    ensures { result ≡ record { node = 0; left = 0; top = top; refused = 13 } }
+// Makes a Phi of so many operands in hand, which are copied to below it.
+fn make_phi(unifier: &mut Unifier, count: u32) -> u32
+    requires { RoomFor unifier.old count }
+    ensures { MakesPhi unifier.old count unifier.new result }
 {
-    Got {
-        node: 0,
-        left: 0,
-        top,
-        refused: refusals::OUT_OF_STEPS,
-    }
-}
-
-fn copy(w: &mut [u32], to: u32, from: u32, count: u32)
-    requires { (to + count ≤ from) × (from + count ≤ length w.old) }
-    ensures { Copied w.old w.new to from count }
-{
-    let t = to as usize;
-    let f = from as usize;
-    let c = count as usize;
-    let mut i: usize = 0;
-    while i < c {
-        let x = w[f + i];
-        w[t + i] = x;
-        i += 1;
-    }
-}
-
-// A Function of these words, with what g has as its return type.
-fn made_function(w: &mut [u32], g: Got, stack: u32, kind: u32, shape: u32) -> Got
-    requires { RoomFor w.old g stack 0 }
-    ensures { MadeFunction w.old w.new g kind shape result }
-{
-    let refused = g.refused;
-    if refused != 0 {
-        return g;
-    }
-    let top = g.top;
-    let left = g.left;
-    put_node(w, top, kind, shape, g.node);
-    Got {
-        node: top,
-        left,
-        top: top + NODE_WORDS,
-        refused: 0,
-    }
-}
-
-// A Phi of the operands in hand, which g has counted as its node.
-fn made_phi(w: &mut [u32], g: Got, stack: u32) -> Got
-    requires { RoomFor w.old g stack g.node }
-    ensures { MadePhi w.old w.new g stack result }
-{
-    let refused = g.refused;
-    if refused != 0 {
-        return g;
-    }
-    let count = g.node;
-    let top = g.top;
-    copy(w, top, stack, count);
-    let left = g.left;
-    put_node(w, top + count, type_kinds::PHI, top, count);
-    Got {
-        node: top + count,
-        left,
-        top: top + count + NODE_WORDS,
-        refused: 0,
-    }
+    let stack = unifier.stack as usize;
+    let operands = unifier.top;
+    unifier
+        .words
+        .copy_within(stack..stack + count as usize, operands as usize);
+    unifier.top = operands + count;
+    make_node(unifier, type_kinds::PHI, operands, count)
 }
 
 // The type with what its variables are bound to put in.
 #[cycle(substitution)]
-pub fn get(w: &mut [u32], lo: u32, st: State, n: u32) -> Got
-    requires room { Room w.old st.top st.left st.stack }
-    requires known { Known w.old lo st.top n }
-    ensures { Gives w.old w.new lo st n result }
+pub fn get(unifier: &mut Unifier, n: u32) -> Result<u32, Refusal>
+    requires { Known unifier.old n }
+    ensures { Gives unifier.old n unifier.new result }
 {
-    let left = st.left;
-    let top = st.top;
-    let stack = st.stack;
-    if left == 0 {
-        return spent(top);
-    }
-    let next = State {
-        left: left - 1,
-        top,
-        stack,
-        refused: 0,
-    };
-    match node_at(w, lo, n) {
-        Node::Var(s) => {
-            let b = w[s.0 as usize];
-            if b == 0 {
-                return finished(n, left - 1, top);
-            }
-            get(w, lo, next, b - 1)
-        }
-        Node::Function(kind, shape, ret) => {
-            let g = get(w, lo, next, ret);
-            made_function(w, g, stack, kind, shape)
+    unifier.charge()?;
+    match unifier.node(n) {
+        Node::Var(slot) => match unifier.binding(slot) {
+            Some(bound) => get(unifier, bound),
+            None => Ok(n),
+        },
+        Node::Function(kind, shape, return_type) => {
+            let resolved = get(unifier, return_type)?;
+            Ok(make_node(unifier, kind, shape, resolved))
         }
         Node::Phi(at, count) => {
-            let g = get_all(w, lo, next, at, count);
-            made_phi(w, g, stack)
+            let resolved = get_all(unifier, at, count)?;
+            Ok(make_phi(unifier, resolved))
         }
-        Node::Primitive => finished(n, left - 1, top),
-        Node::Poly => finished(n, left - 1, top),
-        Node::ObjectMethod => finished(n, left - 1, top),
-        Node::Object(_) => finished(n, left - 1, top),
+        Node::Primitive | Node::Poly | Node::ObjectMethod | Node::Object(_) => Ok(n),
     }
 }
 
-// get of each operand; the results are put with the operands in hand, and counted.
+// get of each operand; the results are put with the operands in hand, and counted. An operand's own go past those before it.
 #[cycle(substitution)]
-fn get_all(w: &mut [u32], lo: u32, st: State, at: u32, count: u32) -> Got
-    requires room { Room w.old st.top st.left st.stack }
-    requires known_all { KnownAll w.old lo st.top at count }
-    ensures { GivesAll w.old w.new lo st at count result }
+fn get_all(unifier: &mut Unifier, at: u32, count: u32) -> Result<u32, Refusal>
+    requires { KnownAll unifier.old at count }
+    ensures { GivesAll unifier.old at count unifier.new result }
 {
-    let stack = st.stack;
-    let mut left = st.left;
-    let mut top = st.top;
-    let mut k: u32 = 0;
-    while k < count {
-        let n = w[at as usize + k as usize];
-        let g = get(
-            w,
-            lo,
-            State {
-                left,
-                top,
-                stack: stack + k,
-                refused: 0,
-            },
-            n,
-        );
-        let refused = g.refused;
-        if refused != 0 {
-            return g;
-        }
-        w[stack as usize + k as usize] = g.node;
-        left = g.left;
-        top = g.top;
-        k += 1;
+    for k in 0..count {
+        let n = unifier.words[at as usize + k as usize];
+        unifier.stack += k;
+        let resolved = get(unifier, n);
+        unifier.stack -= k;
+        unifier.words[unifier.stack as usize + k as usize] = resolved?;
     }
-    finished(count, left, top)
+    Ok(count)
 }
 
 // Whether the variable stands in the type, through bindings.
 #[cycle(occurrence)]
-pub fn occurs_check(w: &[u32], lo: u32, left: u32, v: TypeId, n: u32) -> Occurs
-    requires { Readable w.now lo n }
-    ensures { Checks w.now lo left v.0 n result }
+pub fn occurs_check(unifier: &mut Unifier, v: TypeId, n: u32) -> Result<bool, Refusal>
+    requires { Readable unifier.old.words.now unifier.old.lo n }
+    ensures { Checks unifier.old unifier.new v.0 n result }
 {
-    if left == 0 {
-        return Occurs::Spent;
-    }
-    match node_at(w, lo, n) {
-        Node::Var(s) => {
-            if s.0 == v.0 {
-                return Occurs::Yes(left - 1);
+    unifier.charge()?;
+    match unifier.node(n) {
+        Node::Var(slot) => {
+            if slot.0 == v.0 {
+                return Ok(true);
             }
-            let b = w[s.0 as usize];
-            if b == 0 {
-                return Occurs::No(left - 1);
+            match unifier.binding(slot) {
+                Some(bound) => occurs_check(unifier, v, bound),
+                None => Ok(false),
             }
-            occurs_check(w, lo, left - 1, v, b - 1)
         }
-        Node::Function(_, _, ret) => occurs_check(w, lo, left - 1, v, ret),
-        Node::Phi(at, count) => occurs_any(w, lo, left - 1, v, at, count),
-        Node::Primitive => Occurs::No(left - 1),
-        Node::Poly => Occurs::No(left - 1),
-        Node::ObjectMethod => Occurs::No(left - 1),
-        Node::Object(_) => Occurs::No(left - 1),
+        Node::Function(_, _, return_type) => occurs_check(unifier, v, return_type),
+        Node::Phi(at, count) => occurs_any(unifier, v, at, count),
+        Node::Primitive | Node::Poly | Node::ObjectMethod | Node::Object(_) => Ok(false),
     }
 }
 
+// Whether it stands in one of the operands.
 #[cycle(occurrence)]
-fn occurs_any(w: &[u32], lo: u32, left: u32, v: TypeId, at: u32, count: u32) -> Occurs
-    requires { ReadableAll w.now lo at count }
-    ensures { ChecksAll w.now lo left v.0 at count result }
+fn occurs_any(unifier: &mut Unifier, v: TypeId, at: u32, count: u32) -> Result<bool, Refusal>
+    requires { ReadableAll unifier.old.words.now unifier.old.lo at count }
+    ensures { ChecksAll unifier.old unifier.new v.0 at count result }
 {
-    let mut l = left;
-    let mut k: u32 = 0;
-    while k < count {
-        let n = w[at as usize + k as usize];
-        match occurs_check(w, lo, l, v, n) {
-            Occurs::Spent => {
-                return Occurs::Spent;
-            }
-            Occurs::Yes(m) => {
-                return Occurs::Yes(m);
-            }
-            Occurs::No(m) => {
-                l = m;
-            }
+    for k in 0..count {
+        let n = unifier.words[at as usize + k as usize];
+        if occurs_check(unifier, v, n)? {
+            return Ok(true);
         }
-        k += 1;
     }
-    Occurs::No(l)
+    Ok(false)
 }
 
 // The type without v as an operand of its Phis; each bound variable on the way is bound anew, to what it was resolved to.
 #[cycle(resolution)]
-pub fn try_resolve_type(w: &mut [u32], lo: u32, st: State, v: TypeId, n: u32) -> Got
-    requires room { Room w.old st.top st.left st.stack }
-    requires known { Known w.old lo st.top n }
-    requires v_lt_lo { v.0 < lo }
-    ensures { Rewrites w.old w.new lo st v.0 n result }
+pub fn try_resolve_type(unifier: &mut Unifier, v: TypeId, n: u32) -> Result<u32, Refusal>
+    requires known { Known unifier.old n }
+    requires slot { v.0 < unifier.old.lo }
+    ensures { Rewrites unifier.old v.0 n unifier.new result }
 {
-    let left = st.left;
-    let top = st.top;
-    let stack = st.stack;
-    if left == 0 {
-        return spent(top);
-    }
-    let next = State {
-        left: left - 1,
-        top,
-        stack,
-        refused: 0,
-    };
-    match node_at(w, lo, n) {
-        Node::Var(s) => {
-            let g = get(w, lo, next, n);
-            resolve_variable(w, lo, g, stack, v, s)
+    unifier.charge()?;
+    match unifier.node(n) {
+        Node::Var(slot) => {
+            let substitution = get(unifier, n)?;
+            resolve_variable(unifier, v, slot, substitution)
         }
-        Node::Function(kind, shape, ret) => {
-            let g = get(w, lo, next, ret);
-            let r = resolve_got(w, lo, g, stack, v);
-            made_function(w, r, stack, kind, shape)
+        Node::Function(kind, shape, return_type) => {
+            let got = get(unifier, return_type)?;
+            let resolved = try_resolve_type(unifier, v, got)?;
+            Ok(make_node(unifier, kind, shape, resolved))
         }
         Node::Phi(at, count) => {
-            let g = resolve_all(w, lo, next, v, at, count);
-            made_phi(w, g, stack)
+            let resolved = resolve_all(unifier, v, at, count)?;
+            Ok(make_phi(unifier, resolved))
         }
-        Node::Primitive => finished(n, left - 1, top),
-        Node::Poly => finished(n, left - 1, top),
-        Node::ObjectMethod => finished(n, left - 1, top),
-        Node::Object(_) => finished(n, left - 1, top),
+        Node::Primitive | Node::Poly | Node::ObjectMethod | Node::Object(_) => Ok(n),
     }
 }
 
-// try_resolve_type of what get gave.
+// The Var of a slot for which get gave this; if that is another type, the slot is bound to what it resolves to.
 #[cycle(resolution)]
-fn resolve_got(w: &mut [u32], lo: u32, g: Got, stack: u32, v: TypeId) -> Got
-    requires room { Room w.old g.top g.left stack }
-    requires known { g.refused ≡ 0 → Known w.old lo g.top g.node }
-    requires v_lt_lo { v.0 < lo }
-    ensures { ResolvesGot (λ σ s t. try_resolve_type σ s v.0 t) w.old w.new lo g stack result }
+fn resolve_variable(
+    unifier: &mut Unifier,
+    v: TypeId,
+    slot: TypeId,
+    substitution: u32,
+) -> Result<u32, Refusal>
+    requires known { Known unifier.old substitution }
+    requires slots { (v.0 < unifier.old.lo) × (slot.0 < unifier.old.lo) }
+    ensures { ResolvesBy 0 (λ σ s t. resolve_var (λ σ' s' t'. try_resolve_type σ' s' v.0 t') σ s slot.0 t) unifier.old substitution unifier.new result }
 {
-    let refused = g.refused;
-    if refused != 0 {
-        return g;
+    if unifier.type_equals(substitution, slot.0) {
+        return Ok(substitution);
     }
-    let left = g.left;
-    let top = g.top;
-    let st = State {
-        left,
-        top,
-        stack,
-        refused: 0,
-    };
-    try_resolve_type(w, lo, st, v, g.node)
+    let resolved = try_resolve_type(unifier, v, substitution)?;
+    unifier.bind(slot, resolved);
+    Ok(resolved)
 }
 
-// What get gave for the Var of s; if that is another type, s is bound to what it resolves to.
+// try_resolve_type of each operand but v; the results are put with the operands in hand, and counted, as in get_all.
 #[cycle(resolution)]
-fn resolve_variable(w: &mut [u32], lo: u32, g: Got, stack: u32, v: TypeId, s: TypeId) -> Got
-    requires room { Room w.old g.top g.left stack }
-    requires known { g.refused ≡ 0 → Known w.old lo g.top g.node }
-    requires v_lt_lo { (v.0 < lo) × (s.0 < lo) }
-    ensures { ResolvesGot (λ σ l t. resolve_var (λ σ' l' t'. try_resolve_type σ' l' v.0 t') σ l s.0 t) w.old w.new lo g stack result }
+fn resolve_all(unifier: &mut Unifier, v: TypeId, at: u32, count: u32) -> Result<u32, Refusal>
+    requires known { KnownAll unifier.old at count }
+    requires slot { v.0 < unifier.old.lo }
+    ensures { RewritesAll unifier.old v.0 at count unifier.new result }
 {
-    let refused = g.refused;
-    if refused != 0 {
-        return g;
-    }
-    if type_equals(w, lo, g.node, s.0) {
-        return g;
-    }
-    let r = resolve_got(w, lo, g, stack, v);
-    let again = r.refused;
-    if again != 0 {
-        return r;
-    }
-    w[s.0 as usize] = r.node + 1;
-    r
-}
-
-// try_resolve_type of each operand but v; the results are put with the operands in hand, and counted.
-#[cycle(resolution)]
-fn resolve_all(w: &mut [u32], lo: u32, st: State, v: TypeId, at: u32, count: u32) -> Got
-    requires room { Room w.old st.top st.left st.stack }
-    requires known_all { KnownAll w.old lo st.top at count }
-    requires v_lt_lo { v.0 < lo }
-    ensures { RewritesAll w.old w.new lo st v.0 at count result }
-{
-    let stack = st.stack;
-    let mut left = st.left;
-    let mut top = st.top;
     let mut made: u32 = 0;
-    let mut k: u32 = 0;
-    while k < count {
-        let n = w[at as usize + k as usize];
-        if n != v.0 {
-            let g = try_resolve_type(
-                w,
-                lo,
-                State {
-                    left,
-                    top,
-                    stack: stack + made,
-                    refused: 0,
-                },
-                v,
-                n,
-            );
-            let refused = g.refused;
-            if refused != 0 {
-                return g;
-            }
-            w[stack as usize + made as usize] = g.node;
-            left = g.left;
-            top = g.top;
-            made += 1;
+    for k in 0..count {
+        let n = unifier.words[at as usize + k as usize];
+        if n == v.0 {
+            continue;
         }
-        k += 1;
+        unifier.stack += made;
+        let resolved = try_resolve_type(unifier, v, n);
+        unifier.stack -= made;
+        unifier.words[unifier.stack as usize + made as usize] = resolved?;
+        made += 1;
     }
-    finished(made, left, top)
+    Ok(made)
 }

@@ -9,4 +9,4 @@ apply_function-requires c = let p = c.requires in
     record { passing = applying_passing p; f_bound = some_function _ _ (checked p.passed) }
 
 pub returns : goal.returns
-returns c = outermost_applies c.requires c.apply_function.ensures
+returns c = outermost_applies c.apply_function.ensures

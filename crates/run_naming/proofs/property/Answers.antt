@@ -1,4 +1,4 @@
-use native.Mathlib.Omega.{arith}
+use Rattle.std.proofs.Common.{arith, rules, sym}
 use Rattle.run_walk.proofs.Composing.{own_fits}
 use Rattle.run_naming.proofs.Accessing.{names_known, access_asked, countable, property_generates}
 use Rattle.run_naming.proofs.property.Goals as goal
@@ -16,13 +16,12 @@ pub object_of-ref_value-requires : goal.object_of-ref_value-requires
 object_of-ref_value-requires c = omega (arith, own_fits c.requires.ready.solving)
 
 pub unify_property-accessed-requires : goal.unify_property-accessed-requires
-unify_property-accessed-requires c = access_asked c.requires c.slot_of-object.ensures c.object_of-use_ref.ensures c.object_of-ref_value.ensures
+unify_property-accessed-requires c = access_asked _ c.requires c.slot_of-object.ensures c.object_of-use_ref.ensures c.object_of-ref_value.ensures
 
 pub counted-h-requires : goal.counted-h-requires
 counted-h-requires c = countable c.requires.ready.solving
 
-pub shape_of-w : goal.shape_of-w
-shape_of-w c = c.unify_property-accessed.ensures.binds.keeps.frame.len
-
 pub returns : goal.returns
-returns c = property_generates c.requires c.slot_of-object.ensures c.is_ref_access-ref_like.ensures c.unify_property-accessed.ensures c.walked-h.ensures c.counted-h.ensures
+returns c =
+    let same = sym c.unify_property-accessed.ensures.binds.keeps.same in
+    property_generates _ c.requires c.slot_of-object.ensures c.is_ref_access-ref_like.ensures c.unify_property-accessed.ensures (search rules) c.walked-h.ensures c.counted-h.ensures

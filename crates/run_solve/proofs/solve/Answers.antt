@@ -1,3 +1,4 @@
+use Rattle.std.proofs.Common.{rules, refl, sym}
 use native.Mathlib.Omega.{arith}
 use Rattle.run_solve.proofs.Lending.{sizes}
 use Rattle.run_solve.proofs.WholeRun.{begun, bindings_inside, lay_asked, ready, generate_stops, applying, apply_stops, answer_asked, run_finishes}
@@ -18,56 +19,38 @@ generate-g-requires c =
     let b = begun c.requires c.count.ensures c.clear.ensures in
     rw c.first_walk.ensures (ready b c.lay_out-lay.ensures)
 
-pub overflow_sub-budget : goal.overflow_sub-budget
-overflow_sub-budget c =
-    let f = rw c.first_walk.ensures at c.generate-g.ensures in
-    omega (arith, f.keeps.fewer)
-
 pub returns-then-number-ne0 : goal.returns-then-number-ne0
 returns-then-number-ne0 c =
     let b = begun c.requires c.count.ensures c.clear.ensures in
     let f = rw c.first_walk.ensures at c.generate-g.ensures in
     generate_stops b c.lay_out-lay.ensures f c.if-number-ne0.true c.refusal-answer.ensures
 
-pub apply-a-requires : goal.apply-a-requires
-apply-a-requires c =
+pub shape_of-w-then-number-ne0 : goal.shape_of-w-then-number-ne0
+shape_of-w-then-number-ne0 c = (returns-then-number-ne0 c).len
+
+pub apply-outcome-requires : goal.apply-outcome-requires
+apply-outcome-requires c =
     let b = begun c.requires c.count.ensures c.clear.ensures in
     let f = rw c.first_walk.ensures at c.generate-g.ensures in
-    applying b c.lay_out-lay.ensures f c.if-number-ne0.false
+    applying b c.lay_out-lay.ensures f c.if-number-ne0.false refl
 
-pub overflow_sub-budget-then-refused_after-ne0 : goal.overflow_sub-budget-then-refused_after-ne0
-overflow_sub-budget-then-refused_after-ne0 c =
-    let f = rw c.first_walk.ensures at c.generate-g.ensures in
-    omega (arith, f.keeps.fewer, c.apply-a.ensures.keeps.fewer)
-
-pub returns-then-refused_after-ne0 : goal.returns-then-refused_after-ne0
-returns-then-refused_after-ne0 c =
+pub returns-in-Err : goal.returns-in-Err
+returns-in-Err c =
     let b = begun c.requires c.count.ensures c.clear.ensures in
     let f = rw c.first_walk.ensures at c.generate-g.ensures in
-    apply_stops b c.lay_out-lay.ensures f c.if-number-ne0.false c.apply-a.ensures c.if-refused_after-ne0.true c.refusal-answer-then-refused_after-ne0.ensures
-
-pub overflow_sub-budget-2 : goal.overflow_sub-budget-2
-overflow_sub-budget-2 c =
-    let f = rw c.first_walk.ensures at c.generate-g.ensures in
-    omega (arith, f.keeps.fewer, c.apply-a.ensures.keeps.fewer)
+    let same = sym c.apply-outcome.ensures.keeps.same in
+    apply_stops b c.lay_out-lay.ensures f c.if-number-ne0.false _ refl c.apply-outcome.new.unifier (search rules) _ c.in-Err.ensures c.refused-answer.ensures
 
 pub table_answer-answer-requires : goal.table_answer-answer-requires
 table_answer-answer-requires c =
     let b = begun c.requires c.count.ensures c.clear.ensures in
     let f = rw c.first_walk.ensures at c.generate-g.ensures in
-    answer_asked b c.lay_out-lay.ensures f c.if-number-ne0.false c.apply-a.ensures c.if-refused_after-ne0.false
+    let same = sym c.apply-outcome.ensures.keeps.same in
+    answer_asked b c.lay_out-lay.ensures f c.if-number-ne0.false _ refl c.apply-outcome.new.unifier (search rules) c.in_default.ensures
 
 pub returns : goal.returns
 returns c =
     let b = begun c.requires c.count.ensures c.clear.ensures in
     let f = rw c.first_walk.ensures at c.generate-g.ensures in
-    run_finishes b c.lay_out-lay.ensures f c.if-number-ne0.false c.apply-a.ensures c.if-refused_after-ne0.false c.table_answer-answer.ensures
-
-pub shape_of-w-then-number-ne0 : goal.shape_of-w-then-number-ne0
-shape_of-w-then-number-ne0 c = (returns-then-number-ne0 c).len
-
-pub shape_of-w-then-refused_after-ne0 : goal.shape_of-w-then-refused_after-ne0
-shape_of-w-then-refused_after-ne0 c = (returns-then-refused_after-ne0 c).len
-
-pub shape_of-w : goal.shape_of-w
-shape_of-w c = (returns c).len
+    let same = sym c.apply-outcome.ensures.keeps.same in
+    run_finishes b c.lay_out-lay.ensures f c.if-number-ne0.false _ refl c.apply-outcome.new.unifier (search rules) c.in_default.ensures c.table_answer-answer.ensures

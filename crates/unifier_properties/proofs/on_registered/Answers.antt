@@ -1,5 +1,4 @@
-use mathlib.Core.Path.{sym}
-use lib.Seq.{length-take-le}
+use mathlib.Core.Path.{◌∙◌}
 use Rattle.unifier_properties.specs.Lookup.{number_on_registered}
 use Rattle.unifier_properties.proofs.Lookups.{key_named, names_string, names_position, names_number, names_computed}
 use Rattle.unifier_properties.proofs.on_registered.Goals as goal
@@ -9,14 +8,11 @@ name_bytes-requires c =
     let h = c.requires in
     (h.0.registry.names, key_named _ c.in-String.is h.1)
 
-pub slice_bounds-by_name-end : goal.slice_bounds-by_name-end
-slice_bounds-by_name-end c = sym (length-take-le _ _ c.digits_of-d.ensures.within)
-
 pub returns-in-String : goal.returns-in-String
 returns-in-String c = rw (names_string _ _ c.in-String.is c.name_bytes.ensures) c.by_name.ensures
 
 pub returns-in-Position : goal.returns-in-Position
-returns-in-Position c = rw (names_position _ _ c.in-Position.is c.digits_of-d.ensures) c.by_name-in-Position.ensures
+returns-in-Position c = rw (names_position _ _ c.in-Position.is (c.as_slice.ensures ∙ c.digits_of.ensures)) c.by_name-in-Position.ensures
 
 pub returns-in-Number : goal.returns-in-Number
 unfolding number_on_registered

@@ -4,9 +4,9 @@ use Rattle.unifier_properties.specs.Lookup.{answer}
 use Rattle.unifier_properties.proofs.Lookups.{entry_is, entry_missing}
 use Rattle.unifier_properties.proofs.star_entry.Goals as goal
 
-pub returns-in-Is : goal.returns-in-Is
+pub returns-in-Some : goal.returns-in-Some
 unfolding answer
-returns-in-Is c = sym (entry_is star _ c.find_entry.ensures c.in-Is.is)
+returns-in-Some c = sym (entry_is star _ c.find_entry.ensures c.in-Some.is)
 
-pub returns-in-Missing : goal.returns-in-Missing
-returns-in-Missing c = sym (entry_missing star _ c.find_entry.ensures c.in-Missing.is)
+pub returns-in-None : goal.returns-in-None
+returns-in-None c = sym (entry_missing star _ c.find_entry.ensures c.in-None.is)

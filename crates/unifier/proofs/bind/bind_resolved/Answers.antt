@@ -1,43 +1,24 @@
-use native.Mathlib.Omega.{arith}
-use Rattle.unifier.proofs.Checked.{room_fits, known_low, rewrites_known, rewrites_room, resolved_spent, resolved_cycle, resolved_put}
+use Rattle.std.proofs.lemmas.Result.{err_from_is_err_and}
 use Rattle.unifier_nodes.proofs.Getting.{known_stands}
+use Rattle.unifier.proofs.Checked.{bind_fits, resolved_refused, resolved_known, resolved_lo, resolved_cycle, resolved_put}
 use Rattle.unifier.proofs.bind.bind_resolved.Goals as goal
 
-pub shape_of-w-then-refused-ne0 : goal.shape_of-w-then-refused-ne0
-shape_of-w-then-refused-ne0 c = c.try_resolve_type-g.ensures.frame.len
-
-pub returns-then-refused-ne0 : goal.returns-then-refused-ne0
-returns-then-refused-ne0 c = resolved_spent c.try_resolve_type-g.ensures c.if-refused-ne0.true
+pub returns-in_err-resolved : goal.returns-in_err-resolved
+returns-in_err-resolved c =
+    let p = err_from_is_err_and c.from_residual.result c.from_residual.ensures.1 in
+    rw (p.1, p.2) (resolved_refused _ c.in_err-resolved.ensures)
 
 pub mentions-requires : goal.mentions-requires
-mentions-requires c =
-    let h = c.try_resolve_type-g.ensures in
-    known_stands (room_fits (rewrites_room h c.requires.room)).1 (rewrites_known h c.requires.known c.if-refused-ne0.false)
-
-pub shape_of-w-then-mentions : goal.shape_of-w-then-mentions
-shape_of-w-then-mentions c = c.try_resolve_type-g.ensures.frame.len
+mentions-requires c = known_stands (resolved_known _ c.in_ok-resolved.ensures c.requires.known)
 
 pub returns-then-mentions : goal.returns-then-mentions
-returns-then-mentions c =
-    let h = c.try_resolve_type-g.ensures in
-    rw c.refuse.ensures
-    (resolved_cycle h c.if-refused-ne0.false (room_fits (rewrites_room h c.requires.room)).1
-    (rw c.if-mentions.true at c.mentions.ensures))
+returns-then-mentions c = resolved_cycle _ c.in_ok-resolved.ensures c.requires.known (rw c.if-mentions.true at c.mentions.ensures)
 
-pub overflow_add-w : goal.overflow_add-w
-overflow_add-w c =
-    let h = c.try_resolve_type-g.ensures in
-    omega (arith, known_low (rewrites_room h c.requires.room) (rewrites_known h c.requires.known c.if-refused-ne0.false))
-
-pub bounds-w-slot : goal.bounds-w-slot
-bounds-w-slot c =
-    let h = c.try_resolve_type-g.ensures in
-    omega (arith, c.requires.slot_lt_lo, known_low (rewrites_room h c.requires.room) (rewrites_known h c.requires.known c.if-refused-ne0.false))
+pub bind-requires : goal.bind-requires
+bind-requires c =
+    let f = bind_fits _ (resolved_lo _ c.in_ok-resolved.ensures c.requires.slot_inside) (resolved_known _ c.in_ok-resolved.ensures c.requires.known) in
+    record { inside = f.1; fits = f.0 }
 
 pub returns : goal.returns
 returns c =
-    let h = c.try_resolve_type-g.ensures in
-    let z = c.if-refused-ne0.false in
-    let f = room_fits (rewrites_room h c.requires.room) in
-    resolved_put h z c.requires.slot_lt_lo (known_low (rewrites_room h c.requires.room) (rewrites_known h c.requires.known z)).1 f.0 f.1
-    (rw c.if-mentions.false at c.mentions.ensures)
+    resolved_put _ c.in_ok-resolved.ensures c.requires.known c.requires.slot_inside (rw c.if-mentions.false at c.mentions.ensures) c.bind.ensures

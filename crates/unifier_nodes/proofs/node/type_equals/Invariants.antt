@@ -1,9 +1,0 @@
-use mathlib.Core.Bool.{Bool}
-use Rattle.unifier_nodes.specs.Promises.{StandBoth, Equals}
-use Rattle.unifier_nodes.proofs.node.type_equals.Given as goal
-
-abbrev pub invariant-loop-from : goal.invariant-loop-from
-invariant-loop-from l = StandBoth l.w l.lo l.x l.y × ((r : Bool) → Equals l.w l.lo l.x l.y r → Equals l.w l.lo l.a l.b r)
-
-abbrev pub decreases-loop-from : goal.decreases-loop-from
-decreases-loop-from l = l.x
