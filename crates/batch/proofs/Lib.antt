@@ -1,7 +1,7 @@
 pub mod Puts
 pub mod Listed
-pub mod Outputs
 pub mod NotRun
-pub mod Going
+pub mod Outputs
 pub mod Screens
+pub mod Going
 pub mod Done

@@ -1,50 +1,36 @@
--- The screens of a list, from one to the next. Assumes nothing.
-use Prim.Native.Nat.{ℕ, zero, suc, ◌+◌, ◌*◌, ◌-◌, ◌/◌, ◌≤◌, ◌<◌}
+-- The rows of a list are its screens. Assumes nothing.
+use Prim.Native.Nat.{ℕ, zero, suc, ◌+◌, ◌*◌, ◌/◌, ◌<◌}
 use native.Mathlib.Omega.{arith}
-use native.Mathlib.Nat.{div-add-mod'}
-use mathlib.Core.Path.{◌≡◌, refl, ap}
-use mathlib.Core.Bool.{true, false}
-use mathlib.Core.List.{List, [], ◌∷◌}
-use lib.ListN.{length}
-use Rattle.batch.specs.declared.Screen.{Screen}
-use Rattle.batch.specs.Batch.{screen_at, screens_from, screen_inside, screens_inside}
+use native.Mathlib.Nat.{add-zero}
+use mathlib.Core.Path.{◌≡◌, refl, ap, ap₂, ◌∙◌}
+use mathlib.Core.List.{List, ◌∷◌}
+use lib.ListN.{length, get_or, take, drop}
+use lib.Seq.{drop-drop}
+use Rattle.std.specs.Simd.{first_chunks}
+use Rattle.std.proofs.lemmas.List.{get_or-take, get_or-drop}
+use Rattle.batch.specs.Batch.{screen_at, screens_from, screens_of}
+use Rattle.batch.specs.Steps.{screen_of, screens}
 
--- whole rows lie in the list
-pub div_rows : (n : ℕ) → 5 * (n / 5) ≤ n
-div_rows n = omega (arith, div-add-mod' n 5)
+-- as many screens as rows
+pub screens_length : (list : List ℕ) (k n : ℕ) → length (screens_from list k n) ≡ n
+unfolding screens_from
+screens_length list k zero = refl
+screens_length list k (suc n) = ap suc (screens_length list (k + 1) n)
 
-module _ (list : List ℕ) where
-  -- the next screen, and those after it
-  pub screens_next : {k n : ℕ} → k < n → screens_from list k (n - k) ≡ screen_at list k ∷ screens_from list (k + 1) (n - (k + 1))
-  unfolding screens_from
-  screens_next {k} {n} h =
-      let e : n - k ≡ suc (n - (k + 1)) = omega arith in
-      ap (screens_from list k) e
+-- the screen of five words from word 5 * k on is screen k
+row_screen : (list : List ℕ) (k : ℕ) → screen_of (take 5 (drop (5 * k) list)) ≡ screen_at list k
+unfolding screen_at
+row_screen list k = rw (word 0 (omega arith), add-zero (5 * k), word 1 (omega arith), word 2 (omega arith), word 3 (omega arith), word 4 (omega arith))
+  where
+    word : (i : ℕ) → i < 5 → get_or (take 5 (drop (5 * k) list)) i 0 ≡ get_or list (5 * k + i) 0
+    word i h = get_or-take 5 (drop (5 * k) list) i 0 h ∙ get_or-drop (5 * k) list i 0
 
-  -- no screen is left
-  pub screens_end : {k n : ℕ} → n ≤ k → screens_from list k (n - k) ≡ []
-  unfolding screens_from
-  screens_end {k} {n} h =
-      let e : n - k ≡ 0 = omega arith in
-      ap (screens_from list k) e
+rows_from : (list : List ℕ) (k n : ℕ) → screens (first_chunks 5 n (drop (5 * k) list)) ≡ screens_from list k n
+unfolding screens_from
+rows_from list k zero = refl
+rows_from list k (suc n) =
+    let e : 5 * k + 5 ≡ 5 * (k + 1) = omega arith in
+    ap₂ ◌∷◌ (row_screen list k) (ap (λ l. screens (first_chunks 5 n l)) (drop-drop 5 (5 * k) list ∙ ap (λ m. drop m list) e) ∙ rows_from list (k + 1) n)
 
-  -- so many screens
-  pub screens_length : (k n : ℕ) → length (screens_from list k n) ≡ n
-  unfolding screens_from
-  screens_length k zero = refl
-  screens_length k (suc n) = ap suc (screens_length (k + 1) n)
-
-  module _ (words bytes : ℕ) {k n : ℕ} where
-    -- whether the screens from k on are inside, by the next one
-    pub inside_next : {s : Screen} → k < n → s ≡ screen_at list k → screen_inside words bytes s ≡ true
-        → screens_inside words bytes (screens_from list k (n - k)) ≡ screens_inside words bytes (screens_from list (k + 1) (n - (k + 1)))
-    unfolding screens_inside
-    inside_next h q e = rw (screens_next h, ← q, e)
-
-    pub inside_not : {s : Screen} → k < n → s ≡ screen_at list k → screen_inside words bytes s ≡ false → screens_inside words bytes (screens_from list k (n - k)) ≡ false
-    unfolding screens_inside
-    inside_not h q e = rw (screens_next h, ← q, e)
-
-    pub inside_end : n ≤ k → screens_inside words bytes (screens_from list k (n - k)) ≡ true
-    unfolding screens_inside
-    inside_end h = rw (screens_end h)
+pub rows_are : (list : List ℕ) → screens (first_chunks 5 (length list / 5) list) ≡ screens_of list
+rows_are list = rows_from list 0 (length list / 5)

@@ -4,9 +4,7 @@ use native.Mathlib.Omega.{arith}
 use mathlib.Core.Path.{◌≡◌, refl, sym, ap, ◌∙◌}
 use mathlib.Core.List.{List, ◌++◌, append-nil, append_assoc}
 use lib.ListN.{length}
-use Rattle.image.specs.Ty.{NONE}
-use Rattle.unifier_definition.specs.Counts.{no_lookups}
-use Rattle.run_definition.specs.Infer.{Answer, refusal}
+use Rattle.run_definition.specs.Infer.{Answer}
 use Rattle.run_answer.specs.Lent.{put}
 use Rattle.run_answer.proofs.LentLaws.{put_none}
 use Rattle.batch.specs.Batch.{answer_row, not_run_row, not_run_rows}
@@ -28,11 +26,6 @@ unfolding not_run_rows
 not_run_more zero = sym (append-nil not_run_row)
 not_run_more (suc n) = append_assoc not_run_row (not_run_rows n) not_run_row ∙ ap (λ l. not_run_row ++ l) (not_run_more n)
 
--- a refusal with the number NONE is such a row
-refusal_row : answer_row (refusal NONE 0 0).answer ≡ not_run_row
-unfolding answer_row refusal no_lookups not_run_row
-refusal_row = refl
-
 -- no row, and one row more
 pub not_run_none : (a : List ℕ) (from : ℕ) → a ≡ put a (9 * from) (not_run_rows (from - from))
 unfolding not_run_rows
@@ -40,11 +33,11 @@ not_run_none a from =
     let e : from - from ≡ 0 = omega arith in
     rw (e, not_run_rows) (sym (put_none a (9 * from)))
 
-pub not_run_one : (a₀ : List ℕ) {a a₁ : List ℕ} (from k : ℕ) {r : Answer} → from ≤ k → 9 * from ≤ length a₀ → a ≡ put a₀ (9 * from) (not_run_rows (k - from)) → r ≡ (refusal NONE 0 0).answer
-    → a₁ ≡ put a (9 * k) (answer_row r) → a₁ ≡ put a₀ (9 * from) (not_run_rows (k + 1 - from))
-not_run_one a₀ from k h l e q p =
+pub not_run_one : (a₀ : List ℕ) {a a₁ : List ℕ} (from k : ℕ) → from ≤ k → 9 * from ≤ length a₀ → a ≡ put a₀ (9 * from) (not_run_rows (k - from)) → a₁ ≡ put a (9 * k) not_run_row
+    → a₁ ≡ put a₀ (9 * from) (not_run_rows (k + 1 - from))
+not_run_one a₀ from k h l e p =
     let n : 9 * k ≡ 9 * from + length (not_run_rows (k - from)) = omega (arith, not_run_length (k - from)) in
     let m : k + 1 - from ≡ suc (k - from) = omega arith in
     p
-    ∙ rw (q, refusal_row, e, n) (put_more a₀ (9 * from) (not_run_rows (k - from)) not_run_row l)
+    ∙ rw (e, n) (put_more a₀ (9 * from) (not_run_rows (k - from)) not_run_row l)
     ∙ ap (put a₀ (9 * from)) (not_run_more (k - from) ∙ ap not_run_rows (sym m))

@@ -1,13 +1,14 @@
 -- What a screen's own call comes to. Assumes nothing.
-use Prim.Native.Nat.{ℕ, zero, suc, ◌+◌, ◌*◌, ◌-◌, ◌≤◌}
+use Prim.Native.Nat.{ℕ, zero, suc, ◌+◌, ◌*◌, ◌-◌, ◌≤◌, ◌<◌}
+use Rattle.std.specs.Prelude.{min}
 use native.Mathlib.Omega.{arith}
 use mathlib.Core.Path.{◌≡◌, refl, sym, ap, ◌∙◌}
-use mathlib.Core.Bool.{Bool, true, false, ◌||◌}
+use mathlib.Core.Bool.{Bool, true, false}
 use mathlib.Core.List.{List, [], ◌∷◌, ◌++◌, append-nil}
 use lib.ListN.{length, take, drop, length-drop, length-replicate, take-append-drop, drop_of_length-le}
 use lib.Seq.{length-take-le, length_front, take_all}
-use lib.Dec.{eqb, leb, ltb}
-use borrow.Author.Tests.{leb-true, ltb-true, le-ltb, le-leb, eq-eqb, ne_eqb}
+use lib.Dec.{eqb, leb}
+use borrow.Author.Tests.{leb-true, leb-false, le-ltb, le-leb, lt-leb, eq-eqb, ne_eqb}
 use Rattle.image.specs.Ty.{Ty}
 use Rattle.image.specs.Check.{image_fits, names_fit, budget_fits, work_fits, header_sound, references_sound, types_sound, shapes_sound, bodies_sound, unless, check_tables, check}
 use Rattle.image.specs.Nesting.{nesting_sound}
@@ -22,7 +23,7 @@ use Rattle.run_definition.specs.Rules.{RunNumber, number_done, number_11, number
 use Rattle.run_definition.proofs.Demand.{run_number}
 use Rattle.batch.specs.declared.Screen.{Screen}
 use Rattle.batch.specs.Batch.{none_run, with_later, own_image, own_names, own_check, own_call, run_screens}
-use Rattle.batch.specs.Steps.{lent_work, passed_by, Inside, RunsOwn}
+use Rattle.batch.specs.Steps.{lent_work, check_passed, Inside, RunsOwn}
 use Rattle.run_answer.specs.Lent.{work_after}
 use Rattle.run_answer.specs.declared.Answer.{Answer as Answered}
 use Rattle.infer.specs.Entry.{Infers}
@@ -75,19 +76,19 @@ check_most img bytes budget work =
     (unless_most (nesting_sound img) (omega arith) (omega arith))))))))))
 
 -- a run's number tells that its check has passed
-ran : {n : ℕ} → RunNumber n → eqb n 0 || ltb 10 n ≡ true
+ran : {n : ℕ} → RunNumber n → check_passed n ≡ true
 ran number_done = refl
 ran number_11 = refl
 ran number_12 = refl
 ran number_13 = refl
 ran number_14 = refl
 
-not_ran : (n : ℕ) → suc n ≤ 10 → eqb (suc n) 0 || ltb 10 (suc n) ≡ false
+not_ran : (n : ℕ) → suc n ≤ 10 → check_passed (suc n) ≡ false
 not_ran n h = rw (ne_eqb (suc n) 0 (λ e. omega arith)) (le-ltb 10 (suc n) h)
 
 -- and a refused check's number that it has not
 number_tells : (img bytes : List ℕ) (budget work lent n : ℕ) → check img bytes budget work ≡ n
-    → (let m = (infer img bytes budget work lent).answer.number in eqb m 0 || ltb 10 m) ≡ eqb (check img bytes budget work) 0
+    → check_passed (infer img bytes budget work lent).answer.number ≡ eqb (check img bytes budget work) 0
 unfolding infer after_check refusal
 number_tells img bytes budget work lent zero e = ran (run_number img bytes budget work lent e) ∙ ap (λ k. eqb k 0) (sym e)
 number_tells img bytes budget work lent (suc n) e =
@@ -99,10 +100,10 @@ module _ (images names : List ℕ) (work remaining : ℕ) (s : Screen) where
   unfolding own_call infer
   own_lent = after_check_lent (check (own_image images s) (own_names names s) s.budget work) (own_image images s) (own_names names s) s.budget remaining
 
-  -- what is known of the checks after a run more, by its number
-  pub passed_is : (passed : Bool) → passed_by passed (own_call images names work remaining s).answer.number ≡ passed || eqb (own_check images names work s) 0
-  unfolding passed_by own_call own_check
-  passed_is passed = ap (λ b. passed || b) (number_tells (own_image images s) (own_names names s) s.budget work remaining _ refl)
+  -- the number of its answer tells whether its check has passed
+  pub passed_is : check_passed (own_call images names work remaining s).answer.number ≡ eqb (own_check images names work s) 0
+  unfolding own_call own_check
+  passed_is = number_tells (own_image images s) (own_names names s) s.budget work remaining _ refl
 
   -- the rows of a screen and of those behind it
   module _ (ss : List Screen) where
@@ -118,19 +119,15 @@ module _ (images names : List ℕ) (work remaining : ℕ) (s : Screen) where
     run_off h = rw (eq-eqb _ 14 h)
 
 -- as many work words as a run takes decide test 4 as all of them do
-lent_fits : (s : Screen) (n : ℕ) → leb (8 * (s.image_words + s.budget)) (lent_work s n) ≡ leb (8 * (s.image_words + s.budget)) n
-unfolding lent_work
+lent_fits : (s : Screen) (n : ℕ) → leb (8 * (s.image.length + s.budget)) (lent_work s n) ≡ leb (8 * (s.image.length + s.budget)) n
 lent_fits s n =
-    let need = 8 * (s.image_words + s.budget) in
-    by_bool (ltb need n)
-    (λ e. let h = ltb-true need n e in rw (e, lent_work) (le-leb need need (omega arith) ∙ sym (le-leb need n (omega arith))))
-    (λ e. rw (e, lent_work))
+    let need = 8 * (s.image.length + s.budget) in
+    by_bool (leb need n)
+    (λ e. let h : need ≤ n = leb-true need n e in le-leb need (min need n) (omega arith) ∙ sym e)
+    (λ e. let h : n < need = leb-false need n e in lt-leb need (min need n) (omega arith) ∙ sym e)
 
 pub lent_most : (s : Screen) (n : ℕ) → lent_work s n ≤ n
-unfolding lent_work
-lent_most s n =
-    let need = 8 * (s.image_words + s.budget) in
-    by_bool (ltb need n) (λ e. let h = ltb-true need n e in rw (e, lent_work) (omega arith)) (λ e. rw (e, lent_work) (omega arith))
+lent_most s n = omega arith
 
 -- work words after a check: as many as before, and the same where it refuses
 after_length : (n : ℕ) (w : List ℕ) → length (work_after n w) ≡ length w
@@ -144,8 +141,8 @@ after_refused zero w h = absurd (h refl)
 after_refused (suc n) w h = refl
 
 module _ {images names : List ℕ} {s : Screen} (h : Inside images names s) where
-  image_length : length (own_image images s) ≡ s.image_words
-  image_length = length-take-le s.image_words (drop s.image_start images) (simp length-drop (omega (arith, h.image)))
+  image_length : length (own_image images s) ≡ s.image.length
+  image_length = length-take-le s.image.length (drop s.image.start images) (simp length-drop (omega (arith, h.image)))
 
   check_lent : (n : ℕ) → check (own_image images s) (own_names names s) s.budget (lent_work s n) ≡ own_check images names n s
   unfolding check work_fits own_check

@@ -1,12 +1,12 @@
 -- Words put over a list's: their number, and some put behind others. Assumes nothing.
-use Prim.Native.Nat.{ℕ, suc, ◌+◌, ◌≤◌}
+use Prim.Native.Nat.{ℕ, ◌+◌, ◌≤◌}
 use native.Mathlib.Omega.{arith}
 use native.Mathlib.Nat.{zero-add, add_assoc}
-use native.Mathlib.Numerals.{add-one}
 use mathlib.Core.Path.{◌≡◌, sym, ap, ◌∙◌}
-use mathlib.Core.List.{List, [], ◌∷◌, ◌++◌, append_assoc}
-use lib.ListN.{length, take, drop, set, length-append, length-drop}
-use lib.Seq.{length-take-le, drop-drop, take_at, drop-append-add, sets-eq}
+use mathlib.Core.List.{List, ◌++◌, append_assoc}
+use lib.ListN.{length, take, drop, length-append, length-drop}
+use lib.Seq.{length-take-le, drop-drop, take_at, drop-append-add}
+use borrow.Rule.Slice.PartMut.{put_mid}
 use Rattle.run_answer.specs.Lent.{put}
 
 -- as many words as before
@@ -32,17 +32,7 @@ put_more t from xs ys h =
     ∙ behind (take from t ++ xs) (drop n t) ys n e
     ∙ simp (append_assoc, drop-drop, length-append, add_assoc)
 
--- nine words stored one after another are put
-pub stored_nine : (l : List ℕ) (i a b c d e f g h j : ℕ) → i + 9 ≤ length l
-    → set (set (set (set (set (set (set (set (set l i a) (i + 1) b) (i + 2) c) (i + 3) d) (i + 4) e) (i + 5) f) (i + 6) g) (i + 7) h) (i + 8) j
-    ≡ put l i (a ∷ b ∷ c ∷ d ∷ e ∷ f ∷ g ∷ h ∷ j ∷ [])
+-- words copied over a part are put
+pub copied : (t : List ℕ) (from n : ℕ) (ws : List ℕ) → n ≡ length ws → put_mid from n t ws ≡ put t from ws
 unfolding put
-stored_nine l i a b c d e f g h j q =
-    let e₂ : i + 2 ≡ suc (suc i) = omega arith in
-    let e₃ : i + 3 ≡ suc (suc (suc i)) = omega arith in
-    let e₄ : i + 4 ≡ suc (suc (suc (suc i))) = omega arith in
-    let e₅ : i + 5 ≡ suc (suc (suc (suc (suc i)))) = omega arith in
-    let e₆ : i + 6 ≡ suc (suc (suc (suc (suc (suc i))))) = omega arith in
-    let e₇ : i + 7 ≡ suc (suc (suc (suc (suc (suc (suc i)))))) = omega arith in
-    let e₈ : i + 8 ≡ suc (suc (suc (suc (suc (suc (suc (suc i))))))) = omega arith in
-    rw (add-one i, e₂, e₃, e₄, e₅, e₆, e₇, e₈) (sets-eq (a ∷ b ∷ c ∷ d ∷ e ∷ f ∷ g ∷ h ∷ j ∷ []) l i q ∙ append_assoc (take i l) _ _)
+copied t from n ws e = rw (e, drop-drop)

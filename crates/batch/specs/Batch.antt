@@ -1,5 +1,6 @@
 -- 2.2, "one call over a list of images with one budget each, all lent together, with their tables one after another". Assumes nothing.
 use Rattle.std.specs.Prelude.{ℕ, zero, suc, ◌+◌, ◌*◌, ◌-◌, ◌/◌, ◌%◌, Bool, true, false, ◌&&◌, ◌||◌, List, [], ◌∷◌, ◌++◌, length, get_or, replicate, eqb, leb}
+use Rattle.std.specs.List.{list_all}
 use Rattle.image.specs.Ty.{NONE}
 use Rattle.image.specs.Image.{range}
 use Rattle.image.specs.Check.{inside, check}
@@ -10,10 +11,8 @@ use Rattle.batch.specs.declared.Screen.{Screen}
 unfoldable pub screen_at : (list : List ℕ) → (k : ℕ) → Screen
 screen_at list k =
     record {
-      image_start = get_or list (5 * k) 0;
-      image_words = get_or list (5 * k + 1) 0;
-      name_start = get_or list (5 * k + 2) 0;
-      name_bytes = get_or list (5 * k + 3) 0;
+      image = record { start = get_or list (5 * k) 0; length = get_or list (5 * k + 1) 0 };
+      names = record { start = get_or list (5 * k + 2) 0; length = get_or list (5 * k + 3) 0 };
       budget = get_or list (5 * k + 4) 0;
     }
 
@@ -32,11 +31,10 @@ list_fits list_length answer_length = leb (list_length / 5) 256 && (eqb (list_le
 
 -- 16: "an image's range that leaves the lent words or name bytes"
 unfoldable pub screen_inside : (image_length name_length : ℕ) → Screen → Bool
-screen_inside image_length name_length s = inside s.image_start s.image_words image_length && inside s.name_start s.name_bytes name_length
+screen_inside image_length name_length s = inside s.image.start s.image.length image_length && inside s.names.start s.names.length name_length
 
-unfoldable pub screens_inside : (image_length name_length : ℕ) → List Screen → Bool
-screens_inside image_length name_length [] = true
-screens_inside image_length name_length (s ∷ ss) = screen_inside image_length name_length s && screens_inside image_length name_length ss
+abbrev pub screens_inside : (image_length name_length : ℕ) → List Screen → Bool
+screens_inside image_length name_length ss = list_all (screen_inside image_length name_length) ss
 
 -- "an answer row nine: number, steps, slots, bindings, table words, the counts of 2.1"
 unfoldable pub answer_row : Answer → List ℕ
@@ -68,10 +66,10 @@ with_later passed o later = record { answers = answer_row o.answer ++ later.answ
 
 -- a screen's image and names, in what all are lent together
 abbrev pub own_image : (images : List ℕ) → Screen → List ℕ
-own_image images s = range images s.image_start s.image_words
+own_image images s = range images s.image.start s.image.length
 
 abbrev pub own_names : (names : List ℕ) → Screen → List ℕ
-own_names names s = range names s.name_start s.name_bytes
+own_names names s = range names s.names.start s.names.length
 
 module _ (images names : List ℕ) (work_length : ℕ) where
   unfoldable pub own_check : Screen → ℕ
@@ -110,5 +108,5 @@ batch list images names work_length table_length answer_length =
 
 -- To unfold this one is to unfold every definition of this file: the rows compute by it.
 unfoldable pub batch_compute : Unit {0}
-unfolding screen_at screens_from list_fits screen_inside screens_inside answer_row not_run_row not_run_rows none_run with_later own_check own_call run_screens batch
+unfolding screen_at screens_from list_fits screen_inside answer_row not_run_row not_run_rows none_run with_later own_check own_call run_screens batch
 batch_compute = tt

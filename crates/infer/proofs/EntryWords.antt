@@ -2,26 +2,26 @@
 use Prim.Native.Nat.{ℕ, zero, suc, ◌+◌, ◌*◌}
 use mathlib.Core.Path.{◌≡◌, refl, sym, ap, ◌∙◌}
 use mathlib.Core.List.{List, ◌++◌}
-use lib.ListN.{length, take, drop}
+use lib.ListN.{length, take, drop, replicate}
 use Rattle.image.specs.Check.{check}
 use Rattle.image.specs.Program.{program}
 use Rattle.run_definition.specs.Infer.{infer_types, refusal, output_of, after_check, infer}
-use Rattle.run_answer.specs.Lent.{put, answer_of, cleared, work_after}
+use Rattle.run_answer.specs.Lent.{put, answer_of, work_after}
 use Rattle.infer.specs.Entry.{Infers}
 use Rattle.infer.specs.Run.{Runs}
 use Rattle.run_answer.specs.declared.Answer.{Answer as Answered}
 use Rattle.run_definition.proofs.Demand.{run_number, tables_sound}
-use Rattle.run_answer.proofs.LentLaws.{put_none}
+use Rattle.run_answer.proofs.LentLaws.{put_none, cleared_all}
 use Rattle.run_solve.proofs.Lending.{all_cleared}
 
 -- the answer where it passes, and the work words once all are cleared
 pub infers_passed : {img bytes w w₂ w₃ t t' : List ℕ} {budget : ℕ} {r : Answered} → check img bytes budget (length w) ≡ 0 → Runs img bytes budget (take (8 * (length img + budget)) w) w₂ t t' r
-    → w₃ ≡ cleared (length (w₂ ++ drop (8 * (length img + budget)) w)) (w₂ ++ drop (8 * (length img + budget)) w) → Infers img bytes budget w w₃ t t' r
+    → w₃ ≡ replicate (length (w₂ ++ drop (8 * (length img + budget)) w)) 0 → Infers img bytes budget w w₃ t t' r
 unfolding infer after_check
 infers_passed {img} {bytes} {w} {w₂} {t = t} {budget = budget} e runs f = record {
   answers = runs.answers ∙ sym (ap (λ o. o.answer) output);
   writes = runs.writes ∙ sym (ap (λ o. put t 0 o.tables) output);
-  clears = all_cleared img bytes budget w e w₂ runs.len f;
+  clears = all_cleared img bytes budget w e w₂ runs.len (f ∙ sym (cleared_all _));
   sound = λ p. record { number = run_number img bytes budget (length w) (length t) p; tables = tables_sound img bytes budget (length w) (length t) p };
 }
   where

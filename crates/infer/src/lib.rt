@@ -7,19 +7,18 @@ ghost use Rattle.run_solve.specs.Solve.{RunAsked};
 
 use image::WORK_WORDS_EACH;
 pub use run_answer::Answer;
-use run_answer::{clear, refusal};
 
 // Everything after the check, in as many work words as it takes.
 fn run(img: &[u32], bytes: &[u8], budget: u32, w: &mut [u32], tables: &mut [u32]) -> Answer
     requires { RunAsked img.now bytes.now budget w.old }
     ensures { Runs img.now bytes.now budget w.old w.new tables.old tables.new result }
 {
-    let s = run_solve::solve(img, bytes, budget, w, tables.len());
-    let answer = s.answer;
+    let solved = run_solve::solve(img, bytes, budget, w, tables.len());
+    let answer = solved.answer;
     if answer.number != 0 {
         return answer;
     }
-    run_tables::write(w, s.lay, answer.slots, tables);
+    run_tables::write(w, solved.lay, answer.slots, tables);
     answer
 }
 
@@ -33,12 +32,11 @@ pub fn infer_types(
 ) -> Answer
     ensures { Infers image.now names.now budget work.old work.new tables.old tables.new result }
 {
-    let number = image_check::check(image, names, budget, work.len());
-    if number != 0 {
-        return refusal(number, 0, 0);
+    if let Err(refusal) = image_check::check(image, names, budget, work.len()) {
+        return Answer::refused(refusal, 0, 0);
     }
     let need = WORK_WORDS_EACH * (image.len() + budget as usize);
     let answer = run(image, names, budget, &mut work[..need], tables);
-    clear(work, work.len());
+    work.fill(0);
     answer
 }

@@ -7,6 +7,7 @@ ghost use Rattle.infer.specs.Entry.{Infers};
 ghost use Rattle.batch.specs.Entry.{Batches};
 ghost use Rattle.listing.specs.Entry.{Lists};
 
+use image::refusal::number_of;
 use listing::ListingAnswer;
 use run_answer::Answer;
 
@@ -29,7 +30,7 @@ pub extern "C" fn infer_types(
 pub extern "C" fn image_check(image: &[u32], names: &[u8], budget: u32, work: usize) -> u32
     ensures { result ≡ check_of image.now names.now budget work }
 {
-    image_check::check(image, names, budget, work)
+    number_of(image_check::check(image, names, budget, work))
 }
 
 // A list of images, each as by its own run.

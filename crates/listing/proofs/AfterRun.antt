@@ -1,10 +1,11 @@
 -- What `solve` leaves is what a listing asks, and stays while it is made. Assumes nothing.
-use Prim.Native.Nat.{ℕ, ◌+◌, ◌*◌, ◌^◌, ◌≤◌, ◌<◌}
+use Prim.Native.Nat.{ℕ, ◌+◌, ◌-◌, ◌*◌, ◌^◌, ◌≤◌, ◌<◌}
 use native.Mathlib.Omega.{arith}
 use mathlib.Core.Path.{◌≡◌, sym, ap, subst, ◌∙◌}
 use mathlib.Core.Option.{Option}
 use mathlib.Core.List.{List, flat_map}
-use lib.ListN.{length}
+use lib.ListN.{length, get_or, take, drop}
+use Rattle.std.proofs.lemmas.List.{length-take, length-drop, get_or-take, get_or-drop, get_or_default, same_lists}
 use Rattle.image.specs.Ty.{Ty}
 use Rattle.image.specs.declared.Table.TheVariants.{Slots, Types, Lists}
 use Rattle.image.specs.Program.{program}
@@ -29,7 +30,6 @@ use Rattle.run_solve.proofs.SolvedLaws.{solved, slot_bindings, Stand, many}
 use Rattle.listing_definition.specs.Listing.{listed_from, listing_of}
 use Rattle.listing_definition.proofs.Fits.{listing_few}
 use Rattle.listing_walk.specs.Walk.{steps_of, order_at, Places, Keeps, ListsAsked, ListsAll}
-use Rattle.listing.specs.Rows.{InOrder}
 
 -- words that stand for a log stand for its rows, if these say the same
 good_rows : {w : List ℕ} {lo top : ℕ} {σ bs : Log} → lookup bs ≡ lookup σ → Good w lo top σ → Good w lo top bs
@@ -54,6 +54,16 @@ resolved_kept {w} {w'} {lay} k R =
       placed = omega (arith, R.placed);
       small = omega (arith, R.small);
     }
+
+-- words that stand one after another
+part_is : (w xs : List ℕ) (from n : ℕ) → n ≡ length xs → from + n ≤ length w → ((i : ℕ) → i < n → at w (from + i) ≡ get_or xs i 0) → take (from + n - from) (drop from w) ≡ xs
+part_is w xs from n m h each =
+    same_lists (take (from + n - from) (drop from w)) xs (omega (arith, length-take (from + n - from) (drop from w), length-drop from w))
+    (λ i d l.
+    let k : i < n = omega (arith, length-take (from + n - from) (drop from w)) in
+    let j : i < from + n - from = omega arith in
+    get_or-take (from + n - from) (drop from w) i d j ∙ get_or-drop from w i d ∙ get_or_default w (from + i) d 0 (omega arith) ∙ each i k
+    ∙ get_or_default xs i 0 d (omega arith))
 
 module _ {img bytes w w₁ : List ℕ} {budget lent : ℕ} {s : Solved} (A : RunAsked img bytes budget w) (S : Solves img bytes budget w w₁ lent s) (z : s.answer.number ≡ 0) where
   c : CheckedImage img bytes budget
@@ -120,16 +130,17 @@ module _ {img bytes w w₁ : List ℕ} {budget lent : ℕ} {s : Solved} (A : Run
       few : n ≤ steps_of lay
       few = L.few asks_variables
 
-      pub in_order : InOrder w₂ lay.lo order n (listed_from bs slot)
-      unfolding order_at asks_variables
-      in_order =
-          let p = places in
-          let f = few in
-          let k = L.keeps.len in
-          rw e
-          (record {
-            many = sym (L.many asks_variables);
-            each = L.each asks_variables;
-            low = L.low asks_variables;
-            inside = omega arith;
-          })
+      pub listed_inside : order + n ≤ length w₂
+      unfolding order_at
+      listed_inside = let p = places in let f = few in let k = L.keeps.len in omega (arith, e)
+
+      -- the variables that stand in order are those of the definition
+      pub listed_is : take (order + n - order) (drop order w₂) ≡ listed_from bs slot
+      unfolding asks_variables
+      listed_is = part_is w₂ (listed_from bs slot) order n (L.many asks_variables) listed_inside (λ i h. rw e (L.each asks_variables i h))
+
+      pub listed_low : (i : ℕ) → i < length (listed_from bs slot) → get_or (listed_from bs slot) i 0 < lay.lo
+      unfolding asks_variables
+      listed_low i h =
+          let m = L.many asks_variables in
+          subst (λ (x : ℕ). x < lay.lo) (L.each asks_variables i (omega arith)) (L.low asks_variables i (omega arith))

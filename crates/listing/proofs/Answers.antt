@@ -1,9 +1,9 @@
 -- What `run` answers, in the definition's terms. Assumes nothing.
-use Prim.Native.Nat.{ℕ, ◌≤◌, ◌<◌}
+use Prim.Native.Nat.{ℕ, ◌+◌, ◌-◌, ◌^◌, ◌≤◌, ◌<◌}
 use native.Mathlib.Omega.{arith}
 use mathlib.Core.Path.{◌≡◌, refl, sym, ap, subst, ◌∙◌}
 use mathlib.Core.List.{List, []}
-use lib.ListN.{length}
+use lib.ListN.{length, take, drop}
 use lib.Seq.{sets-eq}
 use borrow.Author.Tests.{lt-ltb, le-ltb, le-leb, lt-leb}
 use Rattle.image.specs.Program.{program}
@@ -12,7 +12,10 @@ use Rattle.run_definition.specs.Infer.{Output, Answer, infer_types, refusal, out
 use Rattle.run_definition.specs.More.{WithMore, with_more, refused_more, after_run, bindings_of}
 use Rattle.run_answer.specs.Lent.{put, answer_of}
 use Rattle.run_answer.proofs.LentLaws.{put_none}
-use Rattle.run_tables.specs.Writing.{counting, writing, table, WriteAsked, Writes}
+use Rattle.run_tables.specs.Output.{Target, target, counting}
+use Rattle.run_tables.specs.Writing.{WriteAsked, Writes}
+use Rattle.run_tables.specs.declared.output.Counter.{Counter}
+use Rattle.run_tables.proofs.Sinks.{emitted_next}
 use Rattle.run_solve.specs.Solve.{RunAsked, Solves}
 use Rattle.run_solve.specs.declared.Solved.{Solved}
 use Rattle.run_solve.proofs.SolvedLaws.{slot_bindings, stopped_tables, solved_output, solved_bindings, write_asked, tables_written}
@@ -20,9 +23,9 @@ use Rattle.listing_definition.specs.Listing.{listed_from, listing_of, listing_wi
 use Rattle.listing_definition.proofs.Sound.{after_done, after_refused, by_number}
 use Rattle.listing_walk.specs.Walk.{order_at, ListsAll}
 use Rattle.listing.specs.Entry.{Gives}
-use Rattle.listing.specs.Rows.{AsksListing, EmitsListing, WritesListing, RunsListing}
+use Rattle.listing.specs.Rows.{AsksListing, EmitsListing, WriteListingAsked, WritesListing, RunsListing}
 use Rattle.listing.specs.declared.ListingAnswer.{ListingAnswer}
-use Rattle.listing.proofs.AfterRun.{still_stands, still_good, in_order, counted_few}
+use Rattle.listing.proofs.AfterRun.{still_stands, still_good, listed_is, listed_low, counted_few}
 
 -- the three ends of a listing after its run
 module _ (bs : List Binding) (slot lent : ℕ) (o : Output) where
@@ -104,15 +107,28 @@ module _ {img bytes w w₁ : List ℕ} {budget : ℕ} (slot : ℕ) (t l : List �
       kept : length w₂ ≡ length w
       kept = L.keeps.len ∙ S.len
 
-      -- what `listing_size` asks and gives
-      pub asks_count : AsksListing counting w₂ s.lay.lo order n 0
-      unfolding listing_of
-      asks_count = record { bs = bs; good = still_good A S z h L e; xs = listed_from bs slot; ordered = in_order A S z h L e; room = omega (arith, counted_few A S z slot) }
+      -- the variables, which stand in the work words
+      abbrev variables : List ℕ
+      variables = take (order + n - order) (drop order w₂)
 
-      module _ {words : ℕ} (E : EmitsListing counting w₂ s.lay.lo order n 0 words) where
+      variables_are : variables ≡ listed_from bs slot
+      variables_are = listed_is A S z h L e
+
+      -- what is asked to count the words, and what that gives
+      pub asks_count : {c : Counter} → AsksListing counting w₂ s.lay.lo variables (target c 0)
+      unfolding listing_of
+      asks_count = rw variables_are (record { bs = bs; good = still_good A S z h L e; low = listed_low A S z h L e; room = omega (arith, counted_few A S z slot) })
+
+      module _ {c c' : Counter} {words : ℕ} (E : EmitsListing counting w₂ s.lay.lo variables (target c 0) (target c' words)) where
         counted : words ≡ length (listing_of bs slot)
         unfolding listing_of
-        counted = omega (arith, E.is bs (listed_from bs slot) (still_good A S z h L e) (in_order A S z h L e))
+        counted =
+            let i = (rw variables_are at E).is bs (still_good A S z h L e) in
+            omega (arith, ap (λ (x : Target Counter). x.next) i, emitted_next counting (target c 0) (listing_of bs slot))
+
+        -- they fit a word
+        pub counted_short : words < 2 ^ 32
+        counted_short = omega (arith, counted, counted_few A S z slot)
 
         -- 18
         pub runs_long : {r : ListingAnswer} → length l < words → answer_of r.answer ≡ (refusal 18 s.answer.steps 0).answer → r.listing_words ≡ words → RunsListing img bytes budget w w₂ t t slot l l r
@@ -122,15 +138,15 @@ module _ {img bytes w w₁ : List ℕ} {budget : ℕ} (slot : ℕ) (t l : List �
 
         module _ (m : words ≤ length l) where
           -- what is asked to write
-          pub asks_rows : AsksListing writing w₂ s.lay.lo order n (table l 0)
+          pub asks_rows : WriteListingAsked w₂ s.lay.lo variables l
           unfolding listing_of
-          asks_rows = record { bs = bs; good = still_good A S z h L e; xs = listed_from bs slot; ordered = in_order A S z h L e; room = omega (arith, counted) }
+          asks_rows = rw variables_are (record { bs = bs; good = still_good A S z h L e; low = listed_low A S z h L e; room = omega (arith, counted) })
 
           pub asks_tables : WriteAsked w₂ s.lay s.answer.slots t
           asks_tables = write_asked S z refl (still_stands A S z h L e)
 
           -- and what is written
-          pub runs_done : {t' l' : List ℕ} → WritesListing w₂ s.lay.lo order n l l' → Writes w₂ s.lay s.answer.slots t t'
+          pub runs_done : {t' l' : List ℕ} → WritesListing w₂ s.lay.lo variables l l' → Writes w₂ s.lay s.answer.slots t t'
               → RunsListing img bytes budget w w₂ t t' slot l l' (record { answer = s.answer; listing_words = words })
           unfolding with_more listing_of put
           runs_done W T =
@@ -139,5 +155,5 @@ module _ {img bytes w w₁ : List ℕ} {budget : ℕ} (slot : ℕ) (t l : List �
                 answers = answer_is;
                 listing_words = counted;
                 tables = tables_written S z refl (still_stands A S z h L e) T;
-                rows = W.is bs (listed_from bs slot) (still_good A S z h L e) (in_order A S z h L e) ∙ sets-eq (listing_of bs slot) l 0 (omega (arith, counted));
+                rows = (rw variables_are at W).is bs (still_good A S z h L e) ∙ sets-eq (listing_of bs slot) l 0 (omega (arith, counted));
               }) kept

@@ -1,50 +1,49 @@
 -- How the rows of a listing are put out, to be counted or to be written, and the contract of `run`. Assumes nothing.
-use Rattle.std.specs.Prelude.{ℕ, ◌+◌, ◌≤◌, ◌<◌, ◌≡◌, length, get_or}
+use Rattle.std.specs.Prelude.{ℕ, ◌≤◌, ◌<◌, ◌≡◌, length, get_or}
 use mathlib.Core.List.{List, flat_map}
 use Rattle.std.proofs.lemmas.List.Edits.{sets}
 use Rattle.image.specs.Program.{program}
 use Rattle.unifier_definition.specs.Log.{Binding}
-use Rattle.unifier_nodes.specs.Work.{at, Good}
+use Rattle.unifier_nodes.specs.Work.{Good}
 use Rattle.run_definition.specs.Infer.{infer_types, output_of}
 use Rattle.run_definition.specs.More.{after_run, bindings_of}
-use Rattle.run_tables.specs.Writing.{Sink}
+use Rattle.run_tables.specs.Output.{Sink, Target, emit, has_room}
 use Rattle.listing_definition.specs.Listing.{listing_row, listing_with}
 use Rattle.listing.specs.declared.ListingAnswer.{ListingAnswer}
 use Rattle.listing.specs.Entry.{Gives}
 
--- variables of slots stand one after another
-pub record InOrder (w : List ℕ) (lo order n : ℕ) (xs : List ℕ) : Type 0 where
-  pub many : length xs ≡ n
-  pub each : (i : ℕ) → i < n → at w (order + i) ≡ get_or xs i 0
-  pub low : (i : ℕ) → i < n → at w (order + i) < lo
-  pub inside : order + n ≤ length w
-
 module _ {S : Type 0} (k : Sink S) (w : List ℕ) (lo : ℕ) where
   -- what is asked to put out a variable's row: that the words stand for bindings, and room
-  pub record AsksListingRow (x : ℕ) (s : S) : Type 0 where
+  pub record AsksListingRow (x : ℕ) (s : Target S) : Type 0 where
     pub bs : List Binding
     pub good : Good w lo (length w) bs
     pub low : x < lo
-    pub room : k.room s (length (listing_row bs x))
+    pub room : has_room k s (length (listing_row bs x))
 
   -- a row is put out
-  pub record EmitsListingRow (x : ℕ) (s s' : S) : Type 0 where
-    pub is : (bs : List Binding) → Good w lo (length w) bs → s' ≡ k.emit s (listing_row bs x)
+  pub record EmitsListingRow (x : ℕ) (s s' : Target S) : Type 0 where
+    pub is : (bs : List Binding) → Good w lo (length w) bs → s' ≡ emit k s (listing_row bs x)
 
-  -- the same of the rows of n variables
-  pub record AsksListing (order n : ℕ) (s : S) : Type 0 where
+  -- the same of the rows of variables
+  pub record AsksListing (xs : List ℕ) (s : Target S) : Type 0 where
     pub bs : List Binding
     pub good : Good w lo (length w) bs
-    pub xs : List ℕ
-    pub ordered : InOrder w lo order n xs
-    pub room : k.room s (length (flat_map (listing_row bs) xs))
+    pub low : (i : ℕ) → i < length xs → get_or xs i 0 < lo
+    pub room : has_room k s (length (flat_map (listing_row bs) xs))
 
-  pub record EmitsListing (order n : ℕ) (s s' : S) : Type 0 where
-    pub is : (bs : List Binding) (xs : List ℕ) → Good w lo (length w) bs → InOrder w lo order n xs → s' ≡ k.emit s (flat_map (listing_row bs) xs)
+  pub record EmitsListing (xs : List ℕ) (s s' : Target S) : Type 0 where
+    pub is : (bs : List Binding) → Good w lo (length w) bs → s' ≡ emit k s (flat_map (listing_row bs) xs)
 
--- the promise of `write_listing`
-pub record WritesListing (w : List ℕ) (lo order n : ℕ) (t t' : List ℕ) : Type 0 where
-  pub is : (bs : List Binding) (xs : List ℕ) → Good w lo (length w) bs → InOrder w lo order n xs → t' ≡ sets t 0 (flat_map (listing_row bs) xs)
+-- what `write_listing` asks: the same, with room in the words that are lent
+pub record WriteListingAsked (w : List ℕ) (lo : ℕ) (xs t : List ℕ) : Type 0 where
+  pub bs : List Binding
+  pub good : Good w lo (length w) bs
+  pub low : (i : ℕ) → i < length xs → get_or xs i 0 < lo
+  pub room : length (flat_map (listing_row bs) xs) ≤ length t
+
+-- and what it promises
+pub record WritesListing (w : List ℕ) (lo : ℕ) (xs t t' : List ℕ) : Type 0 where
+  pub is : (bs : List Binding) → Good w lo (length w) bs → t' ≡ sets t 0 (flat_map (listing_row bs) xs)
 
 -- the promise of `run`
 pub record RunsListing (img bytes : List ℕ) (budget : ℕ) (w w' t t' : List ℕ) (slot : ℕ) (l l' : List ℕ) (r : ListingAnswer) : Type 0 where

@@ -2,19 +2,22 @@
 #![tactic(auto)]
 
 ghost use Rattle.std.specs.Prelude.{◌≡◌};
-ghost use Rattle.run_tables.specs.Writing.{counting, writing, table};
+ghost use Rattle.run_tables.specs.Output.{target};
 ghost use Rattle.run_solve.specs.Solve.{RunAsked};
 ghost use Rattle.listing.specs.Entry.{Lists};
-ghost use Rattle.listing.specs.Rows.{AsksListingRow, EmitsListingRow, AsksListing, EmitsListing, WritesListing, RunsListing};
+ghost use Rattle.listing.specs.Rows.{AsksListingRow, EmitsListingRow, AsksListing, EmitsListing, WriteListingAsked, WritesListing, RunsListing};
 ghost use Rattle.run_definition.specs.Infer.{refusal as refusal_of};
 ghost use Rattle.run_answer.specs.Lent.{answer_of};
+ghost use Rattle.image.specs.Refusals.{number};
 
-use image::{NONE, TypeId, WORK_WORDS_EACH, refusals};
+use image::refusal::Refusal;
+use image::{NONE, TypeId, WORK_WORDS_EACH};
 use listing_walk::{list_variables, order_of};
-use run_answer::{Answer, clear, refusal};
-use run_tables::{put_one, put_two, type_size, write_type};
+use run_answer::Answer;
+use run_tables::emit_type;
+use run_tables::output::{Counter, Output, Writer};
 
-// The answer of a run, and the words of its listing.
+// The answer of a run, and the words of its listing, as hosts in C are given them.
 #[repr(C)]
 #[derive(Clone, Copy)]
 pub struct ListingAnswer {
@@ -22,64 +25,45 @@ pub struct ListingAnswer {
     pub listing_words: u32,
 }
 
-// A row's words, added to those so far.
-fn row_size(w: &[u32], lo: u32, x: TypeId, words: u32) -> u32
-    requires { AsksListingRow counting w.now lo x.0 words }
-    ensures { EmitsListingRow counting w.now lo x.0 words result }
+// A variable and its binding, put at a place. Gives the next place, as `emit_listing`.
+fn emit_row<O: Output>(w: &[u32], lo: u32, x: TypeId, out: &mut O, at: usize) -> usize
+    requires { AsksListingRow O.sink w.now lo x.0 (target out.old at) }
+    ensures { EmitsListingRow O.sink w.now lo x.0 (target out.old at) (target out.new result) }
 {
     let b = w[x.0 as usize];
     if b == 0 {
-        return words + 2;
+        return out.put_two(at, x.0, NONE);
     }
-    type_size(w, lo, b - 1, words + 1)
+    let next = out.put(at, x.0);
+    emit_type(w, lo, b - 1, out, next)
 }
 
-// Words of the rows of n variables, which stand from `order` on.
-fn listing_size(w: &[u32], lo: u32, order: u32, n: u32) -> u32
-    requires { AsksListing counting w.now lo order n 0 }
-    ensures { EmitsListing counting w.now lo order n 0 result }
-{
-    let mut words: u32 = 0;
-    let mut k: u32 = 0;
-    while k < n {
-        let x = TypeId(w[order as usize + k as usize]);
-        words = row_size(w, lo, x, words);
-        k += 1;
-    }
-    words
-}
-
-fn write_row(w: &[u32], lo: u32, x: TypeId, listing: &mut [u32], at: usize) -> usize
-    requires { AsksListingRow writing w.now lo x.0 (table listing.old at) }
-    ensures { EmitsListingRow writing w.now lo x.0 (table listing.old at) (table listing.new result) }
-{
-    let b = w[x.0 as usize];
-    if b == 0 {
-        return put_two(listing, at, x.0, NONE);
-    }
-    let next = put_one(listing, at, x.0);
-    write_type(w, lo, b - 1, listing, next)
-}
-
-fn write_listing(w: &[u32], lo: u32, order: u32, n: u32, listing: &mut [u32])
-    requires { AsksListing writing w.now lo order n (table listing.old 0) }
-    ensures { WritesListing w.now lo order n listing.old listing.new }
+// The rows of variables, put out from the start.
+fn emit_listing<O: Output>(w: &[u32], lo: u32, variables: &[u32], out: &mut O) -> usize
+    requires { AsksListing O.sink w.now lo variables.now (target out.old 0) }
+    ensures { EmitsListing O.sink w.now lo variables.now (target out.old 0) (target out.new result) }
 {
     let mut next: usize = 0;
-    let mut k: u32 = 0;
-    while k < n {
-        let x = TypeId(w[order as usize + k as usize]);
-        next = write_row(w, lo, x, listing, next);
-        k += 1;
+    for x in variables {
+        next = emit_row(w, lo, TypeId(*x), out, next);
     }
+    next
+}
+
+fn write_listing(w: &[u32], lo: u32, variables: &[u32], listing: &mut [u32])
+    requires { WriteListingAsked w.now lo variables.now listing.old }
+    ensures { WritesListing w.now lo variables.now listing.old listing.new }
+{
+    let mut out = Writer { table: listing };
+    emit_listing(w, lo, variables, &mut out);
 }
 
 // A refusal: its counts and table words are 0.
-fn refused(number: u32, steps: u32, listing_words: u32) -> ListingAnswer
-    ensures { (answer_of result.answer ≡ (refusal_of number steps 0).answer) × (result.listing_words ≡ listing_words) }
+fn refused(reason: Refusal, steps: u32, listing_words: u32) -> ListingAnswer
+    ensures { (answer_of result.answer ≡ (refusal_of (number reason) steps 0).answer) × (result.listing_words ≡ listing_words) }
 {
     ListingAnswer {
-        answer: refusal(number, steps, 0),
+        answer: Answer::refused(reason, steps, 0),
         listing_words,
     }
 }
@@ -106,17 +90,20 @@ fn run(
         };
     }
     if slot >= answer.slots {
-        return refused(refusals::SLOT, answer.steps, 0);
+        return refused(Refusal::Slot, answer.steps, 0);
     }
     let lay = s.lay;
     let n = list_variables(w, lay, slot);
-    let order = order_of(lay);
-    let listing_words = listing_size(w, lay.lo, order, n);
-    if listing_words as usize > listing.len() {
-        return refused(refusals::LISTING_WORDS, answer.steps, listing_words);
+    let order = order_of(lay) as usize;
+    let words: &[u32] = w;
+    let variables = &words[order..order + n as usize];
+    let size = emit_listing(words, lay.lo, variables, &mut Counter);
+    let listing_words = size as u32;
+    if size > listing.len() {
+        return refused(Refusal::ListingWords, answer.steps, listing_words);
     }
-    write_listing(w, lay.lo, order, n, listing);
-    run_tables::write(w, lay, answer.slots, tables);
+    write_listing(words, lay.lo, variables, listing);
+    run_tables::write(words, lay, answer.slots, tables);
     ListingAnswer {
         answer,
         listing_words,
@@ -135,9 +122,8 @@ pub fn infer_listing(
 ) -> ListingAnswer
     ensures { Lists image.now names.now budget work.old work.new tables.old tables.new slot listing.old listing.new result }
 {
-    let number = image_check::check(image, names, budget, work.len());
-    if number != 0 {
-        return refused(number, 0, 0);
+    if let Err(refusal) = image_check::check(image, names, budget, work.len()) {
+        return refused(refusal, 0, 0);
     }
     let need = WORK_WORDS_EACH * (image.len() + budget as usize);
     let answer = run(
@@ -149,6 +135,6 @@ pub fn infer_listing(
         slot,
         listing,
     );
-    clear(work, work.len());
+    work.fill(0);
     answer
 }

@@ -5,12 +5,12 @@ use native.Mathlib.Omega.{arith}
 use mathlib.Core.Path.{◌≡◌, refl, sym, ap, subst, ◌∙◌}
 use mathlib.Core.List.Memᴰ
 use mathlib.Core.List.{List, [], ◌∷◌, ◌++◌, flat_map, Memᴰ}
-use mathlib.Core.Logic.{inl, inr}
+use mathlib.Core.Logic.{◌⊎◌, inl, inr}
 use lib.ListN.{length, get_or, set, drop, length-set, length-append, drop_of_length-le}
 use lib.Seq.{drop-cons, get_or-set_same, get_or-set_other}
 use Rattle.image.specs.Ty.{Ty, poly, Tys, nil, cons, variables, variables_all}
 use Rattle.unifier_nodes.specs.Work.{at, leaf_prim, leaf_poly, leaf_method, leaf_object, Rep, rep_var, rep_leaf, rep_func, rep_phi, Reps, reps_nil, reps_cons}
-use Rattle.unifier_nodes.specs.Walks.{Stands, ReadsNode}
+use Rattle.unifier_nodes.specs.Walks.{ReadsNode}
 use Rattle.unifier_nodes.specs.Operands.{Operands}
 use Rattle.unifier_nodes.proofs.Frames.{rep_same}
 use Rattle.unifier_nodes.proofs.OperandLists.{Alone, list_of, list_length, operands_of}
@@ -83,10 +83,6 @@ module _ {w : List ℕ} {lo n end : ℕ} (A : PushAsked w lo n end) where
   pub end_inside : end ≤ length w
   end_inside = omega (arith, A.room)
 
-  -- a node that is asked for can be read
-  pub asked_stands : Stands w lo n
-  asked_stands = record { top = end; t = A.t; fits = end_inside; rep = A.rep }
-
   -- no type inside
   shown_alone : {node : Node} {t : Ty} → ReadsNode w lo n node → Alone node → Rep w lo end n t → variables t ≡ alone node
   unfolding variables
@@ -103,6 +99,13 @@ module _ {w : List ℕ} {lo n end : ℕ} (A : PushAsked w lo n end) where
 
   pub pushes_alone : {node : Node} {w' : List ℕ} {r : ℕ} → ReadsNode w lo n node → Alone node → Pushed w w' (alone node) end r → Pushes w w' lo n end r
   pushes_alone {w' = w'} {r = r} h a p = record { is = λ t q. subst (λ (xs : List ℕ). Pushed w w' xs end r) (sym (shown_alone h a q)) p }
+
+  -- no variable inside
+  pub pushes_nothing : {node : Node} → ReadsNode w lo n node → (node ≡ Primitive) ⊎ ((node ≡ Poly) ⊎ ((node ≡ ObjectMethod) ⊎ ((s : ℕ) × (node ≡ Object s)))) → Pushes w w lo n end end
+  pushes_nothing h (inl e) = pushes_alone (rw e at h) tt (pushed_none w end)
+  pushes_nothing h (inr (inl e)) = pushes_alone (rw e at h) tt (pushed_none w end)
+  pushes_nothing h (inr (inr (inl e))) = pushes_alone (rw e at h) tt (pushed_none w end)
+  pushes_nothing h (inr (inr (inr q))) = let e = q.1 in pushes_alone (rw e at h) tt (pushed_none w end)
 
   -- a Function: its return type
   module _ {kind shape m : ℕ} (h : ReadsNode w lo n (Function kind shape m)) where
@@ -204,10 +207,3 @@ module _ {w₀ : List ℕ} {lo last a c from : ℕ} where
           subst (λ (xs : List ℕ). Pushed w₀ w' xs from r) (sym (next_variables ts k some (omega arith)))
           (pushed_more (P.pushed ts m o) (E.is (get_or ts (k - 1) poly) (next_rep (o.each (k - 1) (omega arith)).rep)));
     }
-
-  pub pushing_end : {w : List ℕ} {end k : ℕ} → Pushing w₀ lo last a c from w end k → k ≤ 0 → PushesAll w₀ w lo last a c from end
-  pushing_end {w} {end} {k} P l =
-      record { is = λ ts m o. let z : k ≡ 0 = omega arith in subst (λ (i : ℕ). Pushed w₀ w (flat_map variables (drop i ts)) from end) z (P.pushed ts m o) }
-
-  pub pushing_length : {w : List ℕ} {end k : ℕ} → Pushing w₀ lo last a c from w end k → length w ≡ length w₀
-  pushing_length P = (P.pushed P.asked.ts P.asked.many P.asked.operands).len

@@ -67,9 +67,6 @@ module _ {w : List ℕ} {lay : Layout} {n x end : ℕ} (a : ListAsked w lay n x 
   pub order_written : {o : ℕ} (m : ℕ) → o ≡ order_at lay → o + n < length (set w m n)
   order_written m e = omega (arith, (order_free P n few).inside, length-set w m n)
 
-  pub low_inside : x < length w
-  low_inside = omega (arith, low_over, P.log, P.entries, P.marks)
-
   -- the binding of x
   binding_word : at marked x ≡ at w x
   binding_word = marked_below x (omega (arith, low_over, low_log))
@@ -146,7 +143,7 @@ module _ {w : List ℕ} {lay : Layout} {n x end : ℕ} (a : ListAsked w lay n x 
           room = omega (arith, inside_taken a.bs x a.listed a.new, length-append (inside a.bs x) a.pending, a.room);
         }
 
--- the contract of `list_variable`, where x is unbound and where it is bound
+-- the contract of `list`, where x is unbound and where it is bound
 pub lists_unbound : {w : List ℕ} {lay : Layout} {n x end : ℕ} (a : ListAsked w lay n x end) → at (marked a) x ≡ 0 → ListsOne w (marked a) lay n x end end
 lists_unbound {w} {lay} {n} {x} {end} a z = record { keeps = one_keeps a (none a); walking = λ b. one_walking b (none b) }
   where

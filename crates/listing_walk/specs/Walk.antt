@@ -106,7 +106,7 @@ pub record Walking (w : List ℕ) (lay : Layout) (bs : List Binding) (pending li
   pub ordered : Ordered w lay n listed
   pub room : n + length pending + unlisted listed bs ≤ steps_of lay
 
--- what `list_variable` asks: x is not listed, and there is room for it too
+-- what `list` asks: x is not listed, and there is room for it too
 pub record ListAsked (w : List ℕ) (lay : Layout) (n x end : ℕ) : Type 0 where
   pub bs : List Binding
   pub pending : List ℕ

@@ -1,7 +1,7 @@
 // The variables of a listing, in order: depth first, each once. They stand where a finished run has done with the work words.
 #![tactic(auto)]
 
-ghost use Rattle.std.specs.Prelude.{◌≡◌, ℕ};
+ghost use Rattle.std.specs.Prelude.{◌≡◌, ◌+◌, ℕ};
 ghost use Rattle.listing_walk.specs.Walk.{order_at, mark_at, Places, Placed, PushAsked, Pushes, PushAllAsked, PushesAll, SeekAsked, Seeks, ListAsked, ListsOne, ListsAsked, ListsAll};
 
 use image::TypeId;
@@ -27,18 +27,6 @@ fn mark_of(lay: Layout, x: TypeId) -> u32
     lay.log + (x.0 - lay.slots)
 }
 
-// Whether a variable is one of the n listed. What stands at the mark of one that is not may be any word.
-fn is_listed(w: &[u32], lay: Layout, n: u32, x: TypeId) -> bool
-    requires { SeekAsked w.now lay n x.0 }
-    ensures { Seeks w.now lay n x.0 result }
-{
-    let k = w[mark_of(lay, x) as usize];
-    if k >= n {
-        return false;
-    }
-    w[order_of(lay) as usize + k as usize] == x.0
-}
-
 // The variables of a type put at the end of those pending, the leftmost last: it is the next. Gives their new end.
 #[cycle(pushes)]
 fn push_variables(w: &mut [u32], lo: u32, n: u32, end: u32) -> u32
@@ -50,10 +38,7 @@ fn push_variables(w: &mut [u32], lo: u32, n: u32, end: u32) -> u32
             w[end as usize] = x.0;
             end + 1
         }
-        Node::Primitive => end,
-        Node::Poly => end,
-        Node::ObjectMethod => end,
-        Node::Object(_) => end,
+        Node::Primitive | Node::Poly | Node::ObjectMethod | Node::Object(_) => end,
         Node::Function(_, _, ret) => push_variables(w, lo, ret, end),
         Node::Phi(at, count) => push_operands(w, lo, n, at, count, end),
     }
@@ -66,27 +51,51 @@ fn push_operands(w: &mut [u32], lo: u32, last: u32, at: u32, count: u32, from: u
     ensures { PushesAll w.old w.new lo last at count from result }
 {
     let mut end = from;
-    let mut k = count;
-    while k > 0 {
-        k -= 1;
+    for k in (0..count).rev() {
         let n = w[at as usize + k as usize];
         end = push_variables(w, lo, n, end);
     }
     end
 }
 
-// A variable listed as the next after n, and those in its binding pending.
-fn list_variable(w: &mut [u32], lay: Layout, n: u32, x: TypeId, end: u32) -> u32
-    requires { ListAsked w.old lay n x.0 end }
-    ensures { ListsOne w.old w.new lay n x.0 end result }
-{
-    w[mark_of(lay, x) as usize] = n;
-    w[order_of(lay) as usize + n as usize] = x.0;
-    let b = w[x.0 as usize];
-    if b == 0 {
-        return end;
+// A listing on its way: how many variables are listed, and where those that are pending end, both in lent words: there is no heap.
+#[derive(Drop)]
+struct Walk<'a> {
+    words: &'a mut [u32],
+    lay: Layout,
+    listed: u32,
+    end: u32,
+}
+
+impl Walk<'_> {
+    // Whether a variable is listed. What stands at the mark of one that is not may be any word.
+    fn is_listed(&self, x: TypeId) -> bool
+        requires { SeekAsked self.now.words.now self.now.lay self.now.listed x.0 }
+        ensures { Seeks self.now.words.now self.now.lay self.now.listed x.0 result }
+    {
+        let k = self.words[mark_of(self.lay, x) as usize];
+        if k >= self.listed {
+            return false;
+        }
+        self.words[order_of(self.lay) as usize + k as usize] == x.0
     }
-    push_variables(w, lay.lo, b - 1, end)
+
+    // The next variable is listed, and those in its binding are pending.
+    fn list(&mut self, x: TypeId)
+        requires { ListAsked self.old.words.now self.old.lay self.old.listed x.0 self.old.end }
+        ensures same_words { self.new.words.ghost_name ≡ self.old.words.ghost_name }
+        ensures same_layout { self.new.lay ≡ self.old.lay }
+        ensures one_more { self.new.listed ≡ self.old.listed + 1 }
+        ensures lists { ListsOne self.old.words.now self.new.words.now self.old.lay self.old.listed x.0 self.old.end self.new.end }
+    {
+        self.words[mark_of(self.lay, x) as usize] = self.listed;
+        self.words[order_of(self.lay) as usize + self.listed as usize] = x.0;
+        self.listed += 1;
+        let b = self.words[x.0 as usize];
+        if b != 0 {
+            self.end = push_variables(self.words, self.lay.lo, b - 1, self.end);
+        }
+    }
 }
 
 // The variable of a slot and all that it leads to; gives how many they are.
@@ -94,15 +103,20 @@ pub fn list_variables(w: &mut [u32], lay: Layout, slot: u32) -> u32
     requires { ListsAsked w.old lay slot }
     ensures { ListsAll w.old w.new lay slot result }
 {
-    let mut end = list_variable(w, lay, 0, TypeId(slot), lay.stack);
-    let mut n: u32 = 1;
-    while end > lay.stack {
-        end -= 1;
-        let x = TypeId(w[end as usize]);
-        if !is_listed(w, lay, n, x) {
-            end = list_variable(w, lay, n, x, end);
-            n += 1;
+    let mut walk = Walk {
+        words: w,
+        lay,
+        listed: 0,
+        end: lay.stack,
+    };
+    walk.list(TypeId(slot));
+    // Those that are pending grow as they are taken, so that no iterator goes over them.
+    while walk.end > lay.stack {
+        walk.end -= 1;
+        let x = TypeId(walk.words[walk.end as usize]);
+        if !walk.is_listed(x) {
+            walk.list(x);
         }
     }
-    n
+    walk.listed
 }

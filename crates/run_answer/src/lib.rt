@@ -2,8 +2,11 @@
 #![tactic(auto)]
 
 ghost use Rattle.std.specs.Prelude.{◌≡◌, ◌≤◌, length};
+ghost use Rattle.image.specs.Refusals.{number as number_of};
 ghost use Rattle.run_definition.specs.Infer.{refusal as refusal_of};
 ghost use Rattle.run_answer.specs.Lent.{answer_of, cleared};
+
+use image::refusal::Refusal;
 
 // Document 01's answer, and document 02's four counts of lookups: by the exact name, the "*" entry, the hook rule, and nothing.
 #[repr(C)]
@@ -20,6 +23,16 @@ pub struct Answer {
     pub nothing: u32,
 }
 
+impl Answer {
+    // That of a run that is refused.
+    pub fn refused(reason: Refusal, steps: u32, table_words: u32) -> Answer
+        ensures { answer_of result ≡ (refusal_of (number_of reason) steps table_words).answer }
+    {
+        refusal(u32::from(reason), steps, table_words)
+    }
+}
+
+// The same, by the number that a refusal has.
 pub fn refusal(number: u32, steps: u32, table_words: u32) -> Answer
     ensures { answer_of result ≡ (refusal_of number steps table_words).answer }
 {
@@ -36,12 +49,10 @@ pub fn refusal(number: u32, steps: u32, table_words: u32) -> Answer
     }
 }
 
-// The first n words are 0 then.
+// The first n words are 0 then, which is `fill` said in the definition's word.
 pub fn clear(w: &mut [u32], n: usize)
     requires { n ≤ length w.old }
     ensures { w.new ≡ cleared n w.old }
 {
-    for k in 0..n {
-        w[k] = 0;
-    }
+    w[..n].fill(0);
 }

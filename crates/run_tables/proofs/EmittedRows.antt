@@ -12,9 +12,10 @@ use Rattle.unifier_definition.specs.Log.{Binding, Log, lookup}
 use Rattle.unifier_nodes.specs.Work.{at, Rep, Good}
 use Rattle.unifier_nodes.proofs.Getting.{is_free, is_bound}
 use Rattle.run_definition.specs.Tables.{made_types, binding_row, binding_rows, written_binding}
-use Rattle.run_tables.specs.Writing.{Sink, Target, writing, Asks, Emits, AsksBindings, EmitsBindings}
+use Rattle.run_tables.specs.Output.{Sink, Target, emit, has_room, Lawful}
+use Rattle.run_tables.specs.Writing.{Asks, Emits, AsksBindings}
 use Rattle.run_definition.proofs.BindingRows.{rows_from}
-use Rattle.run_tables.proofs.Sinks.{Lawful, emit_length, room_first, room_second, emit_both}
+use Rattle.run_tables.proofs.Sinks.{room_first, room_second, emit_both}
 
 -- the rows of the slots from i up to `made`, and their words
 abbrev rows_left : Log → ℕ → ℕ → List Binding
@@ -49,12 +50,12 @@ module _ (σ : Log) {i made : ℕ} (l : i < made) where
   words_bound e = ap (flat_map written_binding) (rows_bound e)
 
 -- the loop over the slots below `made`, i of which are passed: what is left gives what all give, and has room
-pub record Passed {S : Type 0} (k : Sink S) (w : List ℕ) (lo made : ℕ) (s₀ s : S) (i : ℕ) : Type 0 where
-  pub left : (σ : Log) → Good w lo (length w) σ → k.emit s (words_left σ i made) ≡ k.emit s₀ (words_left σ 0 made)
+pub record Passed {S : Type 0} (k : Sink S) (w : List ℕ) (lo made : ℕ) (s₀ s : Target S) (i : ℕ) : Type 0 where
+  pub left : (σ : Log) → Good w lo (length w) σ → emit k s (words_left σ i made) ≡ emit k s₀ (words_left σ 0 made)
   pub σ : Log
   pub good : Good w lo (length w) σ
   pub bound : made ≤ lo
-  pub room : k.room s (length (words_left σ i made))
+  pub room : has_room k s (length (words_left σ i made))
 
 all_left : (σ : Log) (made : ℕ) → rows_left σ 0 made ≡ binding_rows σ made
 unfolding binding_rows
@@ -64,7 +65,7 @@ none_left : (σ : Log) (i made : ℕ) → made ≤ i → rows_left σ i made ≡
 unfolding flat_map tabulate_from
 none_left σ i made l = ap (rows_from σ i) (zero_left l)
 
-module _ {S : Type 0} {k : Sink S} {w : List ℕ} {lo made : ℕ} {s₀ : S} where
+module _ {S : Type 0} {k : Sink S} {w : List ℕ} {lo made : ℕ} {s₀ : Target S} where
   pub passed_none : AsksBindings k w lo made s₀ → Passed k w lo made s₀ s₀ 0
   passed_none A =
       record {
@@ -75,7 +76,7 @@ module _ {S : Type 0} {k : Sink S} {w : List ℕ} {lo made : ℕ} {s₀ : S} whe
         room = rw all_left A.room;
       }
 
-  module _ (law : Lawful k) {s : S} {i : ℕ} (P : Passed k w lo made s₀ s i) where
+  module _ {s : Target S} {i : ℕ} (P : Passed k w lo made s₀ s i) where
     -- an unbound slot
     pub passed_free : i < made → at w i ≡ 0 → Passed k w lo made s₀ s (i + 1)
     passed_free l z =
@@ -83,11 +84,11 @@ module _ {S : Type 0} {k : Sink S} {w : List ℕ} {lo made : ℕ} {s₀ : S} whe
         let e : (σ : Log) → Good w lo (length w) σ → words_left σ i made ≡ words_left σ (i + 1) made =
         λ σ g. ap (flat_map written_binding) (rows_free σ l (is_free z (g.binds i (omega arith)))) in
         record {
-          left = λ σ g. ap (k.emit s) (sym (e σ g)) ∙ P.left σ g;
+          left = λ σ g. ap (emit k s) (sym (e σ g)) ∙ P.left σ g;
           σ = P.σ;
           good = P.good;
           bound = b;
-          room = subst (λ (ws : List ℕ). k.room s (length ws)) (e P.σ P.good) P.room;
+          room = subst (λ (ws : List ℕ). has_room k s (length ws)) (e P.σ P.good) P.room;
         }
 
     module _ (l : i < made) (z : at w i ≡ 0 → ⊥) where
@@ -98,42 +99,34 @@ module _ {S : Type 0} {k : Sink S} {w : List ℕ} {lo made : ℕ} {s₀ : S} whe
           (q.0, words_bound σ l q.1, q.2)
 
       -- a bound slot: its number
-      pub room_bound : k.room s 1
-      room_bound = let q = found P.good in room_first law (i ∷ []) _ q.1 P.room
+      pub room_bound : has_room k s 1
+      room_bound = let q = found P.good in room_first k _ (i ∷ []) _ q.1 P.room
 
       -- its type
-      pub asks_bound : {s₁ : S} → s₁ ≡ k.emit s (i ∷ []) → Asks k w lo (at w i - 1) s₁
-      asks_bound e =
+      pub asks_bound : {s₁ : Target S} → Lawful k → s₁ ≡ emit k s (i ∷ []) → Asks k w lo (at w i - 1) s₁
+      asks_bound law e =
           let q = found P.good in
-          record { t = q.0; rep = q.2; room = room_first law (written q.0) _ refl (room_second law (i ∷ []) _ q.1 e P.room) }
+          record { t = q.0; rep = q.2; room = room_first k _ (written q.0) _ refl (room_second law _ (i ∷ []) _ q.1 e P.room) }
 
-      pub passed_bound : {s₁ s' : S} → s₁ ≡ k.emit s (i ∷ []) → Emits k w lo (at w i - 1) s₁ s' → Passed k w lo made s₀ s' (i + 1)
-      passed_bound e E =
+      pub passed_bound : {s₁ s' : Target S} → Lawful k → s₁ ≡ emit k s (i ∷ []) → Emits k w lo (at w i - 1) s₁ s' → Passed k w lo made s₀ s' (i + 1)
+      passed_bound law e E =
           record {
             left = λ σ g.
                 let q = found g in
-                emit_both law (i ∷ []) _ q.1 e (emit_both law (written q.0) _ refl (E.is q.0 q.2) refl) ∙ P.left σ g;
+                emit_both k _ (i ∷ []) _ q.1 e (emit_both k _ (written q.0) _ refl (E.is q.0 q.2) refl) ∙ P.left σ g;
             σ = P.σ;
             good = P.good;
             bound = P.bound;
             room =
                 let q = found P.good in
-                room_second law (written q.0) _ refl (E.is q.0 q.2) (room_second law (i ∷ []) _ q.1 e P.room);
+                room_second law _ (written q.0) _ refl (E.is q.0 q.2) (room_second law _ (i ∷ []) _ q.1 e P.room);
           }
 
-    pub passed_end : made ≤ i → EmitsBindings k w lo made s₀ s
+    pub passed_end : made ≤ i → (σ : Log) → Good w lo (length w) σ → s ≡ emit k s₀ (flat_map written_binding (binding_rows σ made))
     unfolding flat_map
-    passed_end l =
-        record {
-          is = λ σ g.
-              sym (law.none s) ∙ ap (λ (bs : List Binding). k.emit s (flat_map written_binding bs)) (sym (none_left σ i made l))
-              ∙ P.left σ g
-              ∙ ap (λ (bs : List Binding). k.emit s₀ (flat_map written_binding bs)) (all_left σ made);
-        }
-
--- the table keeps its length
-pub passed_length : {w : List ℕ} {lo made : ℕ} {s₀ s : Target} {i : ℕ} → Passed writing w lo made s₀ s i → length s.words ≡ length s₀.words
-passed_length {made = made} {s₀ = s₀} {s = s} {i = i} P = emit_length s s₀ (words_left P.σ i made) (words_left P.σ 0 made) (P.left P.σ P.good)
+    passed_end l σ g =
+        ap (λ (bs : List Binding). emit k s (flat_map written_binding bs)) (sym (none_left σ i made l)) ∙ P.left σ g
+        ∙ ap (λ (bs : List Binding). emit k s₀ (flat_map written_binding bs)) (all_left σ made)
 
 -- the rows of the slots that are passed are counted
 pub record Counted (w : List ℕ) (lo made i n : ℕ) : Type 0 where
@@ -174,24 +167,18 @@ unfolding made_types tabulate_from flat_map
 vars_none i made l = ap (λ (n : ℕ). flat_map written (tabulate_from var i n)) (zero_left l)
 
 -- the loop over the made slots
-pub record Filled {S : Type 0} (k : Sink S) (slots made : ℕ) (s₀ s : S) (i : ℕ) : Type 0 where
-  pub left : k.emit s (vars_left i made) ≡ k.emit s₀ (vars_left slots made)
-  pub room : k.room s (length (vars_left i made))
+pub record Filled {S : Type 0} (k : Sink S) (slots made : ℕ) (s₀ s : Target S) (i : ℕ) : Type 0 where
+  pub left : emit k s (vars_left i made) ≡ emit k s₀ (vars_left slots made)
+  pub room : has_room k s (length (vars_left i made))
 
-pub filled_none : {S : Type 0} {k : Sink S} {slots made : ℕ} {s₀ : S} → k.room s₀ (length (vars_left slots made)) → Filled k slots made s₀ s₀ slots
-filled_none h = record { left = refl; room = h }
+module _ {S : Type 0} {k : Sink S} {slots made : ℕ} {s₀ s : Target S} {i : ℕ} (F : Filled k slots made s₀ s i) where
+  pub filled_room : i < made → has_room k s 2
+  filled_room l = room_first k _ (0 ∷ i ∷ []) _ (vars_next i made l) F.room
 
-module _ {S : Type 0} {k : Sink S} (law : Lawful k) {slots made : ℕ} {s₀ s : S} {i : ℕ} (F : Filled k slots made s₀ s i) where
-  pub filled_room : i < made → k.room s 2
-  filled_room l = room_first law (0 ∷ i ∷ []) _ (vars_next i made l) F.room
-
-  pub filled_more : {s' : S} → i < made → s' ≡ k.emit s (0 ∷ i ∷ []) → Filled k slots made s₀ s' (i + 1)
-  filled_more l e =
+  pub filled_more : {s' : Target S} → Lawful k → i < made → s' ≡ emit k s (0 ∷ i ∷ []) → Filled k slots made s₀ s' (i + 1)
+  filled_more law l e =
       let n = vars_next i made l in
-      record { left = emit_both law (0 ∷ i ∷ []) _ n e refl ∙ F.left; room = room_second law (0 ∷ i ∷ []) _ n e F.room }
+      record { left = emit_both k _ (0 ∷ i ∷ []) _ n e refl ∙ F.left; room = room_second law _ (0 ∷ i ∷ []) _ n e F.room }
 
-  pub filled_end : made ≤ i → s ≡ k.emit s₀ (vars_left slots made)
-  filled_end l = sym (law.none s) ∙ ap (k.emit s) (sym (vars_none i made l)) ∙ F.left
-
-pub filled_length : {slots made : ℕ} {s₀ s : Target} {i : ℕ} → Filled writing slots made s₀ s i → length s.words ≡ length s₀.words
-filled_length {slots} {made} {s₀} {s} {i} F = emit_length s s₀ (vars_left i made) (vars_left slots made) F.left
+  pub filled_end : made ≤ i → s ≡ emit k s₀ (vars_left slots made)
+  filled_end l = ap (emit k s) (sym (vars_none i made l)) ∙ F.left

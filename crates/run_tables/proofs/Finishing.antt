@@ -1,12 +1,12 @@
 -- The tables of a finished run, put out in three parts. Assumes nothing.
-use Prim.Native.Nat.{ℕ, ◌+◌, ◌*◌, ◌-◌, ◌^◌, ◌≤◌, ◌<◌}
+use Prim.Native.Nat.{ℕ, ◌+◌, ◌-◌, ◌≤◌, ◌<◌}
 use mathlib.Core.Path.{◌≡◌, refl, sym, ap, ◌∙◌}
-use mathlib.Core.List.{List, [], ◌∷◌, ◌++◌, flat_map, append_assoc}
+use mathlib.Core.List.{List, ◌++◌, flat_map, append_assoc}
 use native.Mathlib.Omega.{arith}
+use Rattle.std.proofs.lemmas.Grind.{flat_map-append}
 use lib.ListN.{length, get_or, length-append}
 use borrow.Author.Tests.{le-leb, lt-leb}
 use Rattle.image.specs.Ty.{Ty, var, poly, written}
-use Rattle.image.specs.Program.{tabulate_from}
 use Rattle.unifier_definition.specs.Log.{Log}
 use Rattle.unifier_nodes.specs.Work.{at, Rep, Good}
 use Rattle.unifier_nodes.specs.Operands.{Operands}
@@ -18,23 +18,14 @@ use Rattle.run_tables.specs.Standing.{ResolvedRun, all_types, AnswersTables}
 use Rattle.unifier_counts.specs.Given.{counts_of}
 use Rattle.unifier_counts.specs.declared.Counts.{Counts}
 use Rattle.run_definition.specs.Infer.{refusal, with_tables}
-use Rattle.run_tables.specs.Writing.{Sink, counting, AsksRow, EmitsRow, AsksBindings, EmitsBindings, Sizes}
+use Rattle.run_tables.specs.Output.{Sink, Target, emit, has_room, Lawful, counting, writing, target}
+use Rattle.run_tables.specs.Writing.{AsksRow, EmitsRow, AsksBindings, EmitsBindings, EmitsTables, Sizes, WriteAsked, Writes}
 use Rattle.run_layout.specs.declared.Layout.{Layout}
 use Rattle.run_tables.specs.declared.Size.{Size}
+use Rattle.run_tables.specs.declared.output.Counter.{Counter}
+use Rattle.run_tables.specs.declared.output.Writer.{Writer}
 use Rattle.run_definition.proofs.Lists.{tabulate_length}
-use Rattle.run_definition.proofs.RowSizes.{types_length, vars_sized}
-use Rattle.run_tables.proofs.Sinks.{Lawful, counting_lawful, room_first, room_second, emit_both}
-
--- what lists in a row give
-flatMap_append : {A B : Type 0} (f : A → List B) (xs ys : List A) → flat_map f (xs ++ ys) ≡ flat_map f xs ++ flat_map f ys
-unfolding flat_map
-flatMap_append f [] ys = refl
-flatMap_append f (x ∷ xs) ys = ap (λ zs. f x ++ zs) (flatMap_append f xs ys) ∙ sym (append_assoc (f x) (flat_map f xs) (flat_map f ys))
-
--- a made slot takes two words
-pub made_counted : (words slots made : ℕ) → words + 2 * (made - slots) ≡ counting.emit words (flat_map written (made_types slots made))
-unfolding made_types
-made_counted words slots made = omega (arith, types_length (tabulate_from var slots (made - slots)), vars_sized slots (made - slots))
+use Rattle.run_tables.proofs.Sinks.{emitted_next, room_first, room_second, emit_both, written_name, written_sets}
 
 module _ {w : List ℕ} {lay : Layout} {made : ℕ} {σ : Log} {types : List Ty} (R : ResolvedRun w lay made σ types) where
   -- the tables' words
@@ -59,43 +50,38 @@ module _ {w : List ℕ} {lay : Layout} {made : ℕ} {σ : Log} {types : List Ty}
       }
 
   parts : tables ≡ flat_map written types ++ (flat_map written (made_types lay.slots made) ++ flat_map written_binding (binding_rows σ made))
-  unfolding tables_of all_types
-  parts = rw (flatMap_append, append_assoc)
+  unfolding tables_of all_types flat_map
+  parts = rw (flat_map-append written, append_assoc)
 
-  module _ {S : Type 0} {k : Sink S} (law : Lawful k) {s : S} where
+  module _ {S : Type 0} {k : Sink S} {s : Target S} where
     -- what each part asks
-    pub asks_types : k.room s (length tables) → AsksRow k w lay.lo (length w) lay.entries lay.slots s
-    asks_types h = record { ts = types; many = R.stand.many; row = resolved_row; room = room_first law (flat_map written types) _ parts h }
+    pub asks_types : has_room k s (length tables) → AsksRow k w lay.lo (length w) lay.entries lay.slots s
+    asks_types h = record { ts = types; many = R.stand.many; row = resolved_row; room = room_first k _ (flat_map written types) _ parts h }
 
     -- the types, then the rest
-    module _ {s₁ : S} (E : EmitsRow k w lay.lo (length w) lay.entries lay.slots s s₁) where
-      put_types : s₁ ≡ k.emit s (flat_map written types)
+    module _ {s₁ : Target S} (E : EmitsRow k w lay.lo (length w) lay.entries lay.slots s s₁) where
+      put_types : s₁ ≡ emit k s (flat_map written types)
       put_types = E.is types R.stand.many resolved_row
 
-      pub asks_made : k.room s (length tables) → k.room s₁ (length (flat_map written (made_types lay.slots made)))
-      asks_made h = room_first law (flat_map written (made_types lay.slots made)) _ refl (room_second law (flat_map written types) _ parts put_types h)
+      pub asks_made : Lawful k → has_room k s (length tables) → has_room k s₁ (length (flat_map written (made_types lay.slots made)))
+      asks_made law h = room_first k _ (flat_map written (made_types lay.slots made)) _ refl (room_second law _ (flat_map written types) _ parts put_types h)
 
-      module _ {s₂ : S} (e : s₂ ≡ k.emit s₁ (flat_map written (made_types lay.slots made))) where
-        pub asks_bindings : k.room s (length tables) → AsksBindings k w lay.lo made s₂
-        asks_bindings h =
+      module _ {s₂ : Target S} (e : s₂ ≡ emit k s₁ (flat_map written (made_types lay.slots made))) where
+        pub asks_bindings : Lawful k → has_room k s (length tables) → AsksBindings k w lay.lo made s₂
+        asks_bindings law h =
             record {
               σ = σ;
               good = resolved_good;
               bound = R.bound;
               room =
-                  room_second law (flat_map written (made_types lay.slots made)) _ refl e
-                  (room_second law (flat_map written types) _ parts put_types h);
+                  room_second law _ (flat_map written (made_types lay.slots made)) _ refl e
+                  (room_second law _ (flat_map written types) _ parts put_types h);
             }
 
-        pub emits_tables : {s' : S} → EmitsBindings k w lay.lo made s₂ s' → s' ≡ k.emit s tables
+        pub emits_tables : {out : S} {r : Size} → EmitsBindings k w lay.lo made s₂ out r → target out r.words ≡ emit k s tables
         emits_tables B =
-            emit_both law (flat_map written types) _ parts put_types
-            (emit_both law (flat_map written (made_types lay.slots made)) _ refl e (B.is σ resolved_good))
-
-  -- the number of words of the types fits a word
-  pub made_few : {words : ℕ} → EmitsRow counting w lay.lo (length w) lay.entries lay.slots 0 words → length tables < 2 ^ 32
-      → words + 2 * (made - lay.slots) < 2 ^ 32
-  made_few {words} E l = omega (arith, asks_made counting_lawful E (omega arith), made_counted words lay.slots made)
+            emit_both k _ (flat_map written types) _ parts put_types
+            (emit_both k _ (flat_map written (made_types lay.slots made)) _ refl e (B.is σ resolved_good))
 
   -- there is a type for each slot
   pub types_many : length (all_types lay made types) ≡ made
@@ -104,6 +90,19 @@ module _ {w : List ℕ} {lay : Layout} {made : ℕ} {σ : Log} {types : List Ty}
       let m = R.stand.many in
       let f = R.first in
       omega (arith, length-append types (made_types lay.slots made), tabulate_length var lay.slots (made - lay.slots))
+
+-- the tables are counted
+pub counted_tables : {w : List ℕ} {lay : Layout} {made : ℕ} {c c' : Counter} {size : Size} → EmitsTables counting w lay made (target c 0) c' size → Sizes w lay made size
+counted_tables {c = c} T = record { words = λ σ types R. omega (arith, ap (λ (s : Target Counter). s.next) (T.is σ types R), emitted_next counting (target c 0) (tables R)); bindings = T.many }
+
+-- the tables are written
+module _ {w : List ℕ} {lay : Layout} {made : ℕ} {t t' : Writer} {size : Size} (A : WriteAsked w lay made t.table.now) (T : EmitsTables writing w lay made (target t 0) t' size) where
+  -- in the table that was lent
+  pub same_table : t.table.ghost_name ≡ t'.table.ghost_name
+  same_table = sym (ap (λ (s : Target Writer). s.out.table.ghost_name) (T.is A.σ A.types A.resolved) ∙ written_name t 0 (tables A.resolved))
+
+  pub written_tables : Writes w lay made t.table.now t'.table.now
+  written_tables = record { is = λ σ types R. ap (λ (s : Target Writer). s.out.table.now) (T.is σ types R) ∙ written_sets t 0 (tables R) }
 
 module _ {w : List ℕ} {lay : Layout} {made : ℕ} {size : Size} (C : Sizes w lay made size) (steps : ℕ) (counts : Counts) (lent : ℕ) where
   -- the tables are longer than the lent words

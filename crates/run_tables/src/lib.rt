@@ -1,15 +1,20 @@
 // The tables: every slot's type, then each bound slot's number and binding.
 #![tactic(auto)]
 
-ghost use Rattle.std.specs.Prelude.{◌≡◌, ◌+◌, ◌≤◌, length};
-ghost use mathlib.Core.List.{[], ◌∷◌, flat_map};
+ghost use Rattle.std.specs.Prelude.{◌≡◌, length};
+ghost use mathlib.Core.List.{flat_map};
 ghost use Rattle.image.specs.Ty.{written};
 ghost use Rattle.run_definition.specs.Tables.{made_types};
 ghost use Rattle.run_tables.specs.Standing.{AnswerAsked, AnswersTables};
-ghost use Rattle.run_tables.specs.Writing.{counting, writing, table, Asks, Emits, AsksRow, EmitsRow, AsksBindings, EmitsBindings, SizesBindings, Sizes, WriteAsked, Writes};
+ghost use Rattle.run_tables.specs.Output.{target, emit, has_room};
+ghost use Rattle.run_tables.specs.Writing.{Asks, Emits, AsksRow, EmitsRow, AsksBindings, EmitsBindings, AsksTables, EmitsTables, Sizes, WriteAsked, Writes};
 
-use image::{refusals, type_kinds};
-use run_answer::{Answer, refusal};
+pub mod output;
+
+use image::refusal::Refusal;
+use image::type_kinds;
+use output::{Counter, Output, Writer};
+use run_answer::Answer;
 use run_layout::Layout;
 use unifier_counts::Counts;
 use unifier_nodes::node::{Node, node_at};
@@ -17,171 +22,108 @@ use unifier_nodes::node::{Node, node_at};
 // Words of the tables, and rows of the binding table.
 #[derive(Clone, Copy)]
 struct Size {
-    words: u32,
+    words: usize,
     bindings: u32,
 }
 
-// A type's words, added to those so far.
-#[cycle(type_sizes)]
-pub fn type_size(w: &[u32], lo: u32, n: u32, words: u32) -> u32
-    requires { Asks counting w.now lo n words }
-    ensures { Emits counting w.now lo n words result }
+// A type's words, put at a place. Gives the next place, as all that follow.
+#[cycle(types)]
+pub fn emit_type<O: Output>(w: &[u32], lo: u32, n: u32, out: &mut O, at: usize) -> usize
+    requires { Asks O.sink w.now lo n (target out.old at) }
+    ensures { Emits O.sink w.now lo n (target out.old at) (target out.new result) }
 {
     match node_at(w, lo, n) {
-        Node::Var(_) => words + 2,
-        Node::Primitive => words + 1,
-        Node::Poly => words + 1,
-        Node::ObjectMethod => words + 1,
-        Node::Object(_) => words + 2,
-        Node::Function(_, _, ret) => type_size(w, lo, ret, words + 2),
-        Node::Phi(at, count) => list_size(w, lo, n, at, count, words + 2),
+        Node::Var(x) => out.put_two(at, type_kinds::VAR, x.0),
+        Node::Primitive => out.put(at, type_kinds::PRIMITIVE),
+        Node::Poly => out.put(at, type_kinds::POLY),
+        Node::ObjectMethod => out.put(at, type_kinds::OBJECT_METHOD),
+        Node::Object(s) => out.put_two(at, type_kinds::OBJECT, s),
+        Node::Function(kind, s, ret) => {
+            let next = out.put_two(at, kind, s);
+            emit_type(w, lo, ret, out, next)
+        }
+        Node::Phi(from, count) => {
+            let next = out.put_two(at, type_kinds::PHI, count);
+            emit_list(w, lo, n, from, count, out, next)
+        }
     }
 }
 
-// The same of a list of nodes below last.
-#[cycle(type_sizes)]
-fn list_size(w: &[u32], lo: u32, last: u32, at: u32, count: u32, start: u32) -> u32
-    requires { AsksRow counting w.now lo last at count start }
-    ensures { EmitsRow counting w.now lo last at count start result }
+// The same of a list of nodes below last. Where there are none, `from` may lie past the words, so it is no part of them that is gone over.
+#[cycle(types)]
+fn emit_list<O: Output>(
+    w: &[u32],
+    lo: u32,
+    last: u32,
+    from: u32,
+    count: u32,
+    out: &mut O,
+    at: usize,
+) -> usize
+    requires { AsksRow O.sink w.now lo last from count (target out.old at) }
+    ensures { EmitsRow O.sink w.now lo last from count (target out.old at) (target out.new result) }
 {
-    let mut words = start;
-    let mut k: u32 = 0;
-    while k < count {
-        let n = w[at as usize + k as usize];
-        words = type_size(w, lo, n, words);
-        k += 1;
+    let mut next = at;
+    for k in 0..count {
+        let n = w[from as usize + k as usize];
+        next = emit_type(w, lo, n, out, next);
     }
-    words
+    next
 }
 
-// The same of the bindings, which are counted too.
-fn bindings_size(w: &[u32], lo: u32, made: u32, start: u32) -> Size
-    requires { AsksBindings counting w.now lo made start }
-    ensures { SizesBindings w.now lo made start result }
+// Each made slot is its own Var.
+fn emit_made<O: Output>(slots: u32, made: u32, out: &mut O, at: usize) -> usize
+    requires { has_room O.sink (target out.old at) (length (flat_map written (made_types slots made))) }
+    ensures { target out.new result ≡ emit O.sink (target out.old at) (flat_map written (made_types slots made)) }
 {
-    let mut words = start;
+    let mut next = at;
+    for k in slots..made {
+        next = out.put_two(next, type_kinds::VAR, k);
+    }
+    next
+}
+
+// The bindings of the slots below `made`, which are counted too.
+fn emit_bindings<O: Output>(w: &[u32], lo: u32, made: u32, out: &mut O, at: usize) -> Size
+    requires { AsksBindings O.sink w.now lo made (target out.old at) }
+    ensures { EmitsBindings O.sink w.now lo made (target out.old at) out.new result }
+{
+    let mut words = at;
     let mut bindings: u32 = 0;
-    let mut k: u32 = 0;
-    while k < made {
+    for k in 0..made {
         let b = w[k as usize];
         if b != 0 {
-            words = type_size(w, lo, b - 1, words + 1);
+            let next = out.put(words, k);
+            words = emit_type(w, lo, b - 1, out, next);
             bindings += 1;
         }
-        k += 1;
     }
     Size { words, bindings }
+}
+
+// Every slot's type, then the bindings.
+fn emit_tables<O: Output>(w: &[u32], lay: Layout, made: u32, out: &mut O) -> Size
+    requires { AsksTables O.sink w.now lay made (target out.old 0) }
+    ensures { EmitsTables O.sink w.now lay made (target out.old 0) out.new result }
+{
+    let types = emit_list(w, lay.lo, w.len() as u32, lay.entries, lay.slots, out, 0);
+    let all = emit_made(lay.slots, made, out, types);
+    emit_bindings(w, lay.lo, made, out, all)
 }
 
 fn total_size(w: &[u32], lay: Layout, made: u32) -> Size
     requires { AnswerAsked w.now lay made }
     ensures { Sizes w.now lay made result }
 {
-    let words = list_size(w, lay.lo, w.len() as u32, lay.entries, lay.slots, 0);
-    bindings_size(w, lay.lo, made, words + 2 * (made - lay.slots))
-}
-
-pub fn put_one(t: &mut [u32], at: usize, x: u32) -> usize
-    requires { at + 1 ≤ length t.old }
-    ensures { table t.new result ≡ writing.emit (table t.old at) (x ∷ []) }
-{
-    t[at] = x;
-    at + 1
-}
-
-pub fn put_two(t: &mut [u32], at: usize, x: u32, y: u32) -> usize
-    requires { at + 2 ≤ length t.old }
-    ensures { table t.new result ≡ writing.emit (table t.old at) (x ∷ y ∷ []) }
-{
-    t[at] = x;
-    t[at + 1] = y;
-    at + 2
-}
-
-#[cycle(type_writes)]
-pub fn write_type(w: &[u32], lo: u32, n: u32, t: &mut [u32], at: usize) -> usize
-    requires { Asks writing w.now lo n (table t.old at) }
-    ensures { Emits writing w.now lo n (table t.old at) (table t.new result) }
-{
-    match node_at(w, lo, n) {
-        Node::Var(x) => put_two(t, at, type_kinds::VAR, x.0),
-        Node::Primitive => put_one(t, at, type_kinds::PRIMITIVE),
-        Node::Poly => put_one(t, at, type_kinds::POLY),
-        Node::ObjectMethod => put_one(t, at, type_kinds::OBJECT_METHOD),
-        Node::Object(s) => put_two(t, at, type_kinds::OBJECT, s),
-        Node::Function(kind, s, ret) => {
-            let next = put_two(t, at, kind, s);
-            write_type(w, lo, ret, t, next)
-        }
-        Node::Phi(from, count) => {
-            let next = put_two(t, at, type_kinds::PHI, count);
-            write_list(w, lo, n, from, count, t, next)
-        }
-    }
-}
-
-// The same of a list of nodes below last.
-#[cycle(type_writes)]
-fn write_list(
-    w: &[u32],
-    lo: u32,
-    last: u32,
-    from: u32,
-    count: u32,
-    t: &mut [u32],
-    at: usize,
-) -> usize
-    requires { AsksRow writing w.now lo last from count (table t.old at) }
-    ensures { EmitsRow writing w.now lo last from count (table t.old at) (table t.new result) }
-{
-    let mut next = at;
-    let mut k: u32 = 0;
-    while k < count {
-        let n = w[from as usize + k as usize];
-        next = write_type(w, lo, n, t, next);
-        k += 1;
-    }
-    next
-}
-
-// Each made slot is its own Var.
-fn write_made(slots: u32, made: u32, t: &mut [u32], at: usize) -> usize
-    requires { writing.room (table t.old at) (length (flat_map written (made_types slots made))) }
-    ensures { table t.new result ≡ writing.emit (table t.old at) (flat_map written (made_types slots made)) }
-{
-    let mut next = at;
-    let mut k = slots;
-    while k < made {
-        next = put_two(t, next, type_kinds::VAR, k);
-        k += 1;
-    }
-    next
-}
-
-fn write_bindings(w: &[u32], lo: u32, made: u32, t: &mut [u32], at: usize) -> usize
-    requires { AsksBindings writing w.now lo made (table t.old at) }
-    ensures { EmitsBindings writing w.now lo made (table t.old at) (table t.new result) }
-{
-    let mut next = at;
-    let mut k: u32 = 0;
-    while k < made {
-        let b = w[k as usize];
-        if b != 0 {
-            next = put_one(t, next, k);
-            next = write_type(w, lo, b - 1, t, next);
-        }
-        k += 1;
-    }
-    next
+    emit_tables(w, lay, made, &mut Counter)
 }
 
 pub fn write(w: &[u32], lay: Layout, made: u32, t: &mut [u32])
     requires { WriteAsked w.now lay made t.old }
     ensures { Writes w.now lay made t.old t.new }
 {
-    let types = write_list(w, lay.lo, w.len() as u32, lay.entries, lay.slots, t, 0);
-    let all = write_made(lay.slots, made, t, types);
-    write_bindings(w, lay.lo, made, t, all);
+    let mut out = Writer { table: t };
+    emit_tables(w, lay, made, &mut out);
 }
 
 // The answer of a finished run: done, or a refusal with the length that its tables want.
@@ -197,24 +139,18 @@ pub fn table_answer(
     ensures { AnswersTables w.now lay made steps counts lent result }
 {
     let size = total_size(w, lay, made);
-    let table_words = size.words;
-    let exact = counts.exact as u32;
-    let star = counts.star as u32;
-    let hook = counts.hook as u32;
-    let nothing = counts.nothing as u32;
-    if table_words as usize > lent {
-        return refusal(refusals::TABLE_WORDS, steps, table_words);
+    if size.words > lent {
+        return Answer::refused(Refusal::TableWords, steps, size.words as u32);
     }
-    let bindings = size.bindings;
     Answer {
         number: 0,
         steps,
         slots: made,
-        bindings,
-        table_words,
-        exact,
-        star,
-        hook,
-        nothing,
+        bindings: size.bindings,
+        table_words: size.words as u32,
+        exact: counts.exact as u32,
+        star: counts.star as u32,
+        hook: counts.hook as u32,
+        nothing: counts.nothing as u32,
     }
 }

@@ -1,12 +1,8 @@
-use Prim.Native.Nat.{◌*◌, ◌-◌, ◌≤◌}
+use Prim.Native.Nat.{◌*◌, ◌-◌}
 use mathlib.Core.Path.{◌≡◌}
-use lib.ListN.{length}
 use Rattle.run_answer.specs.Lent.{put}
 use Rattle.batch.specs.Batch.{not_run_rows}
 use Rattle.batch.proofs.put_not_run.Given as goal
 
 abbrev pub invariant-loop-k : goal.invariant-loop-k
-invariant-loop-k l = (l.from ≤ l.k) × (l.k ≤ l.count) × (length l.answers ≡ length l.initial.answers) × (l.answers ≡ put l.initial.answers (9 * l.from) (not_run_rows (l.k - l.from)))
-
-abbrev pub decreases-loop-k : goal.decreases-loop-k
-decreases-loop-k l = l.count - l.k
+invariant-loop-k l = l.answers ≡ put l.initial.answers (9 * l.from) (not_run_rows (l.k - l.from))

@@ -1,26 +1,34 @@
-use mathlib.Core.Path.{sym, ◌∙◌}
+use mathlib.Core.Path.{sym}
 use native.Mathlib.Omega.{arith}
 use Rattle.run_solve.proofs.Lending.{sizes, asks_run}
 use Rattle.infer.proofs.EntryWords.{infers_passed, infers_refused}
+use Rattle.image.specs.Refusals.{refused}
+use Rattle.image.proofs.Numbered.{not_zero}
 use Rattle.infer.proofs.infer_types.Goals as goal
 
-pub returns-then-number-ne0 : goal.returns-then-number-ne0
-returns-then-number-ne0 c = infers_refused _ (sym c.check-number.ensures) c.if-number-ne0.true c.refusal.ensures
+pub returns-in-Err : goal.returns-in-Err
+unfolding refused
+returns-in-Err c = infers_refused _ (sym c.in-Err.ensures) (not_zero c.in-Err.refusal) c.refused.ensures
 
 pub overflow_mul-need : goal.overflow_mul-need
+unfolding refused
 overflow_mul-need c =
-    let z = sizes _ _ _ _ (sym c.check-number.ensures ∙ c.if-number-ne0.false) in
+    let z = sizes _ _ _ _ (sym c.in_default.ensures) in
     omega (arith, z.short, z.steps)
 
 pub slice_bounds-run-end : goal.slice_bounds-run-end
-slice_bounds-run-end c = (sizes _ _ _ _ (sym c.check-number.ensures ∙ c.if-number-ne0.false)).enough
+unfolding refused
+slice_bounds-run-end c = (sizes _ _ _ _ (sym c.in_default.ensures)).enough
 
 pub slice_bounds-run-end-2 : goal.slice_bounds-run-end-2
-slice_bounds-run-end-2 c = sym (asks_run _ _ _ _ (sym c.check-number.ensures ∙ c.if-number-ne0.false)).long
+unfolding refused
+slice_bounds-run-end-2 c = sym (asks_run _ _ _ _ (sym c.in_default.ensures)).long
 
 pub run-answer-requires : goal.run-answer-requires
-run-answer-requires c = asks_run _ _ _ _ (sym c.check-number.ensures ∙ c.if-number-ne0.false)
+unfolding refused
+run-answer-requires c = asks_run _ _ _ _ (sym c.in_default.ensures)
 
 pub returns : goal.returns
+unfolding refused
 returns c =
-    infers_passed (sym c.check-number.ensures ∙ c.if-number-ne0.false) c.run-answer.ensures c.clear.ensures
+    infers_passed (sym c.in_default.ensures) c.run-answer.ensures (c.fill.ensures.after (λ y e. e))

@@ -1,8 +1,5 @@
-use borrow.Author.Rules.{rules}
+use mathlib.Core.Path.{◌∙◌}
 use Rattle.infer_types.proofs.image_check.Goals as goal
 
-pub check-requires : goal.check-requires
-check-requires c = search rules
-
 pub returns : goal.returns
-returns c = c.check.ensures
+returns c = c.number_of.ensures ∙ c.check.ensures

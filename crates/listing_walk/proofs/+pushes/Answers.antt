@@ -1,18 +1,9 @@
 use native.Mathlib.Omega.{arith}
-use Rattle.listing_walk.proofs.Pushing.{pushed_none, pushed_one, asked_stands, room_alone, pushes_alone, asks_func, pushes_func, asks_phi, pushes_phi, pushing_none, next_operand, pushing_more, pushing_end, pushing_length}
+use Rattle.listing_walk.proofs.Pushing.{pushed_one, room_alone, pushes_alone, pushes_nothing, asks_func, pushes_func, asks_phi, pushes_phi, pushing_none, next_operand, pushing_more}
 use Rattle.listing_walk.proofs.+pushes.Goals as goal
 
 pub push_operands-loop-k-init : goal.push_operands-loop-k-init
 push_operands-loop-k-init t c = pushing_none c.requires
-
-pub push_operands-overflow_add-n : goal.push_operands-overflow_add-n
-push_operands-overflow_add-n t c = omega (arith, (next_operand c.loop-k.invariant c.loop-k-test.true).0)
-
-pub push_operands-offset_bounds-w-at : goal.push_operands-offset_bounds-w-at
-push_operands-offset_bounds-w-at t c = omega (arith, (next_operand c.loop-k.invariant c.loop-k-test.true).0)
-
-pub push_operands-bounds-w-at : goal.push_operands-bounds-w-at
-push_operands-bounds-w-at t c = omega (arith, (next_operand c.loop-k.invariant c.loop-k-test.true).0)
 
 pub push_operands-push_variables-end-requires : goal.push_operands-push_variables-end-requires
 push_operands-push_variables-end-requires t c =
@@ -21,15 +12,6 @@ push_operands-push_variables-end-requires t c =
 pub push_operands-loop-k-preserved : goal.push_operands-loop-k-preserved
 push_operands-loop-k-preserved t c =
     pushing_more c.loop-k.invariant c.loop-k-test.true c.push_variables-end.ensures
-
-pub push_operands-shape_of-w : goal.push_operands-shape_of-w
-push_operands-shape_of-w t c = pushing_length c.loop-k.invariant
-
-pub push_operands-returns : goal.push_operands-returns
-push_operands-returns t c = pushing_end c.loop-k.invariant c.loop-k-test.false
-
-pub push_variables-node_at-requires : goal.push_variables-node_at-requires
-push_variables-node_at-requires t c = asked_stands c.requires
 
 pub push_variables-bounds-w-end : goal.push_variables-bounds-w-end
 push_variables-bounds-w-end t c =
@@ -55,16 +37,7 @@ push_variables-returns-in-Var t c =
     pushes_alone s h tt (pushed_one _ _ _ (room_alone s h tt))
 
 pub push_variables-returns-in-Primitive : goal.push_variables-returns-in-Primitive
-push_variables-returns-in-Primitive t c = pushes_alone c.requires (rw c.in-Primitive.is at c.node_at.ensures) tt (pushed_none _ _)
-
-pub push_variables-returns-in-Poly : goal.push_variables-returns-in-Poly
-push_variables-returns-in-Poly t c = pushes_alone c.requires (rw c.in-Poly.is at c.node_at.ensures) tt (pushed_none _ _)
-
-pub push_variables-returns-in-ObjectMethod : goal.push_variables-returns-in-ObjectMethod
-push_variables-returns-in-ObjectMethod t c = pushes_alone c.requires (rw c.in-ObjectMethod.is at c.node_at.ensures) tt (pushed_none _ _)
-
-pub push_variables-returns-in-Object : goal.push_variables-returns-in-Object
-push_variables-returns-in-Object t c = pushes_alone c.requires (rw c.in-Object.is at c.node_at.ensures) tt (pushed_none _ _)
+push_variables-returns-in-Primitive t c = pushes_nothing c.requires c.node_at.ensures c.in-Primitive.is
 
 pub push_variables-returns-in-Function : goal.push_variables-returns-in-Function
 push_variables-returns-in-Function t c =

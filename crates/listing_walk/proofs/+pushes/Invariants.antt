@@ -10,6 +10,3 @@ decreases-push_variables l = 2 * l.n + 1
 
 abbrev pub invariant-push_operands-loop-k : goal.invariant-push_operands-loop-k
 invariant-push_operands-loop-k l = Pushing l.initial.w l.lo l.last l.at l.count l.from l.w l.end l.k
-
-abbrev pub decreases-push_operands-loop-k : goal.decreases-push_operands-loop-k
-decreases-push_operands-loop-k l = l.k

@@ -1,7 +1,0 @@
-use mathlib.Core.Path.{refl}
-use Rattle.batch.specs.Batch.{screen_at}
-use Rattle.batch.proofs.screen_at.Goals as goal
-
-pub returns : goal.returns
-unfolding screen_at
-returns c = refl
