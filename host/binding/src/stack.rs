@@ -10,18 +10,18 @@ const OF_THREAD: usize = 1 << 18;
 
 // Frames of the compiled library, as `objdump -d libinfer_types.a` shows them; another compiler may make others.
 
-/// The check doesn't recurse: `in_large_arrays` 786,544, `check` 32,944, less than 1,000 others, rounded up.
+/// The check doesn't recurse: with `shapes_numbered`, `check` and all between 819,552, rounded up.
 const CHECK: usize = 13 << 16;
-/// A level of `generate_function` or of `apply_function`, which take 384, and 96 to spare.
+/// A level of `generate_function`, which takes 432, and 48 to spare; one of `apply_function` takes 112.
 const FUNCTION: usize = 480;
-/// A level of the unifier: `try_resolve_type` 160, `get` 160, counted as 224, for two steps; `unify` and
-/// `bind_variable_to` over a variable 288, for three. Every level is a step, and its node was entered by another step
+/// A level of the unifier: `try_resolve_type` 96, `get` 96, counted as 224, for two steps; `unify` and
+/// `bind_variable_to` over a variable 80, for three. Every level is a step, and its node was entered by another step
 /// when it was bound or made, but for those of the one type that a walk starts from: two steps a level.
 const STEP: usize = 224 / 2;
 /// The levels of that one type, at most: its 4,096 words, two a level, and a variable.
 const TYPE: usize = 2_049 * STEP;
-/// `infer_batch` 192 or `infer_types` 96, and what both run a screen by 208; or `infer_listing` 272; `solve` 320,
-/// `instruction_types` 592, `property` 208, `bind_phi` 192, `bind_checked` 112, rounded up: with the type 57 pages.
+/// Each function beside these levels once: in `infer_batch` 2,480, in `infer_types` 2,384, in `infer_listing` 2,336,
+/// rounded up: with the type 57 pages.
 const RUN: usize = (57 << 12) - TYPE;
 
 /// The stack bytes that a call of the library takes at most: 10 MiB with the longest image and the whole budget. A list
