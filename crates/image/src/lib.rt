@@ -6,16 +6,11 @@ ghost use Rattle.image.specs.Image.{word, width, header_place, count as count_of
 ghost use Rattle.image.specs.Laid.{Laid, InTable, NamesInside};
 
 pub mod header;
-pub mod kinds;
 pub mod markers;
 pub mod refusal;
-pub mod refusals;
 pub mod shapes;
 pub mod tags;
 pub mod type_kinds;
-mod views;
-
-pub use views::{BodyImage, Header, Image, NamedImage};
 
 // No name, type or shape; a property that is a number.
 pub const NONE: u32 = 4294967295;
@@ -81,6 +76,8 @@ fn header_place(t: Table) -> usize
         Table::Functions => 17,
     }
 }
+
+// The accessors over words: the views call them, and so does the run, which reads bodies by place in the same words.
 
 // The words of a row.
 pub fn row_words(img: &[u32], t: Table) -> usize

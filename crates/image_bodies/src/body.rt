@@ -29,7 +29,7 @@ fn blocks<'a, const N: usize>(reader: &mut BodyReader<N>, words: &'a [u32]) -> O
     Some(rest)
 }
 
-// The kind of the function, returns, parameters, context, blocks.
+// The kind of the function, returns, parameters, context, blocks. The kind is a word that is only tested, so that no enum is made of it.
 pub fn body<'a, const N: usize>(reader: &mut BodyReader<N>, words: &'a [u32]) -> Option<&'a [u32]>
     ensures { Notes named_by_body (body_of reader.old.limits words.now) reader.old reader.new result }
 {

@@ -7,9 +7,9 @@ ghost use Rattle.image.specs.declared.Table.TheVariants.{Functions};
 ghost use Rattle.image_bodies.specs.Answer.{Whole, bodies_refusal};
 
 use crate::body::body;
-use image::BodyImage;
 use image::refusal::Refusal;
 use image_instructions::marks::BodyReader;
+use image_views::BodyImage;
 
 // Whether the body of function f is read, and nothing is left of it.
 fn body_whole<const N: usize>(image: &BodyImage, reader: &mut BodyReader<N>, f: u32) -> bool

@@ -5,7 +5,7 @@ ghost use Rattle.image.specs.Image.{count as count_of};
 ghost use Rattle.image.specs.Check.{each, apart, apart_from_earlier};
 ghost use Rattle.image_bodies.specs.Span.{Spans};
 
-use image::BodyImage;
+use image_views::BodyImage;
 
 // Words from low up to high.
 #[derive(Clone, Copy)]

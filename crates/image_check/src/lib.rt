@@ -8,12 +8,13 @@ ghost use Rattle.image.specs.Laid.{SizedInputs};
 ghost use Rattle.image.specs.Refusals.{refused};
 
 use image::refusal::Refusal;
-use image::{BodyImage, Header, Image, LIMIT, NamedImage, WORK_WORDS_EACH, header};
+use image::{LIMIT, WORK_WORDS_EACH, header};
 use image_bodies::nesting::bodies_read;
 use image_bodies::overlap::bodies_apart;
 use image_shapes::shapes::shapes_sound;
 use image_shapes::types::types_sound;
 use image_tables::{header_sound, references_sound};
+use image_views::{BodyImage, Header, Image, NamedImage};
 
 // The bodies and their nesting.
 fn check_bodies(bodies: &BodyImage) -> Result<(), Refusal>

@@ -53,7 +53,7 @@ pub fn identifiers(limits: Limits, words: &[u32]) -> Option<&[u32]>
     counted(words, |rest| identifier(limits, rest))
 }
 
-// 0 or 1, and an identifier.
+// 0 or 1, and an identifier. Here and in `terminal` the kind is a word that is only tested, so that no enum is made of it.
 fn param(limits: Limits, words: &[u32]) -> Option<&[u32]>
     ensures { Leaves (left (param_of limits words.now)) result }
 {

@@ -3,9 +3,9 @@ ghost use Rattle.std.specs.Prelude.{◌≡◌, ℕ, List, ◌+◌, ◌≤◌, �
 ghost use Rattle.image_numbering.specs.Blocks.{Blocks, Ends};
 
 use crate::numbering::{Links, PairList};
-use image::NamedImage;
+use image_views::NamedImage;
 
-// Blocks of one byte.
+// Blocks of one byte. A loop, since the library's copies do not widen.
 fn number_bytes(bytes: &[u8], numbers: &mut [u16])
     requires { length bytes.now ≤ length numbers.old }
     ensures { Blocks bytes.now numbers.new 1 }

@@ -7,7 +7,7 @@ ghost use Rattle.image_numbering.specs.Blocks.{length_of, Ends, RowsNumbered, Ne
 
 use crate::blocks::NameNumbers;
 use crate::numbering::{Links, PairList};
-use image::NamedImage;
+use image_views::NamedImage;
 
 // The lengths of the names, as two halves of a word.
 fn split_lengths(image: &NamedImage, low: &mut [u16; 32768], high: &mut [u16; 32768])

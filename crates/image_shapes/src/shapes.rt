@@ -4,9 +4,10 @@ ghost use Rattle.image.specs.Image.{count as count_of, cell as cell_of};
 ghost use Rattle.image.specs.Check.{each, among, distinct, shape_sound, shapes_sound};
 ghost use Rattle.image_shapes.specs.Shapes.{shape_fits, reach_sound};
 
-use image::{NamedImage, Table};
+use image::Table;
 use image_numbering::numbering::Links;
 use image_numbering::reach::reach;
+use image_views::NamedImage;
 use std::ops::Range;
 
 // The property rows of a shape that fits: a present word of 0 or 1, and properties in their table, none under an absent shape.

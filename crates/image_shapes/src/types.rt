@@ -6,7 +6,8 @@ ghost use Rattle.image.specs.Image.{count as count_of, node_function, node_phi, 
 ghost use Rattle.image.specs.Check.{types_sound};
 ghost use Rattle.image_shapes.specs.Sizes.{node_words, Sized};
 
-use image::{Image, Table, type_kinds};
+use image::{Table, type_kinds};
+use image_views::Image;
 
 // Types whose sizes take a small array, and as many as an image can have.
 const FEW: usize = 342;

@@ -6,7 +6,8 @@ ghost use Rattle.image.specs.Image.{count as count_of};
 ghost use Rattle.image.specs.Check.{inside as is_inside, table_fits, tables_fit, header_sound, reference_sound, table_sound, references_sound};
 
 use image::header::{ALL_OPTIONS, HOOK_TYPE, LENGTH, OPTIONS, VERSION, VERSION_ONE, WORDS};
-use image::{Header, Image, TABLES, Table, row_words};
+use image::{TABLES, Table, row_words};
+use image_views::{Header, Image};
 
 // The tables that refer to others, to the name bytes or to the image.
 const REFERRING: [Table; 5] = [

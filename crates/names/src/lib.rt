@@ -6,7 +6,7 @@ ghost use Rattle.names.specs.Names.{same, starts_with_set, is_upper_or_digit, is
 
 pub mod digits;
 
-// The two names have equal bytes.
+// The two names have equal bytes: `==` under the definition's name.
 pub fn same_bytes(a: &[u8], b: &[u8]) -> bool
     ensures { result ≡ same a.now b.now }
 {
