@@ -94,14 +94,14 @@ pub found_known : {img : List ℕ} {u : Unifier} {types to a n i : ℕ} → Type
 found_known {img} {i = i} laid l d k = record { room = k.room; σ = k.σ; t = k.t; v = type_at img i; good = k.good; left = k.left; right = rw d (laid.rep i l) }
 
 -- the lookup went by the shape of what the object resolved to
-module _ {img : List ℕ} (u : Unifier) {n shape : ℕ} {node : Node} {l : Lookup} {e : Maybe ℕ} (fits : u.top ≤ length u.words.now) (bytes : List ℕ) (key : Key)
+module _ {img : List ℕ} (u : Unifier) {n : ℕ} {shape : Maybe ℕ} {node : Node} {l : Lookup} {e : Maybe ℕ} (fits : u.top ≤ length u.words.now) (bytes : List ℕ) (key : Key)
     (read : ReadsNode u.words.now u.lo n node) (s : GivesShape node shape)
     (h : LookedUp img l (lookup_shape (registry_of img bytes) shape (key_name img bytes key))) (m : e ≡ lookup_number l) where
   lookup_as : (o : Ty) → RepIn u n o
       → resolve_property_type (registry_of img bytes) o (key_name img bytes key) ≡ lookup_shape (registry_of img bytes) shape (key_name img bytes key)
   lookup_as o q =
       lookup_by_shape (registry_of img bytes) o (key_name img bytes key)
-      ∙ ap (λ (k : ℕ). lookup_shape (registry_of img bytes) k (key_name img bytes key)) (sym (s.is u.words.now u.lo u.top n o (read.shows u.top o fits q)))
+      ∙ ap (λ (k : Maybe ℕ). lookup_shape (registry_of img bytes) k (key_name img bytes key)) (sym (s.is u.words.now u.lo u.top n o (read.shows u.top o fits q)))
 
   -- what gave it
   found_given : {given : GivenBy} → given ≡ given_by_answer l → (o : Ty) → RepIn u n o
@@ -159,7 +159,7 @@ module _ {img bytes : List ℕ} {u : Unifier} {a obj : ℕ} {key : Key} {b : Boo
   -- no step is left
   pub access_spent : {v : Unifier} {why : Refusal} → Charges u v (Err why) → Accesses img bytes u a obj key b v (record { outcome = Err why; given = NoLookup })
   unfolding unify_access access_lookup given_by
-  access_spent c = record { binds = promise_spent c (λ σ t. refl); given = λ σ t good q. rw c.0 }
+  access_spent c = record { binds = promise_spent c (λ σ t. refl); given = λ σ t good q. rw c.0; paid = λ z. absurd (z refl) }
 
   module _ {v : Unifier} (c : Charges u v (Ok tt)) where
     pub access_ref : {x : Unifier} (r : Result (Unit {0}) Refusal) → b ≡ true → Binds unify_as_ref v a obj x r → Accesses img bytes u a obj key b x (record { outcome = r; given = NoLookup })
@@ -169,6 +169,7 @@ module _ {img bytes : List ℕ} {u : Unifier} {a obj : ℕ} {key : Key} {b : Boo
         record {
           binds = promise_by r (keeps_charged {u = u} refl h'.keeps) (λ σ t good q. comes_as LogIn x r (as_ref c (registry_of img bytes) (key_name img bytes key) σ t.0 t.1 d) (h'.means σ t good q));
           given = λ σ t good q. rw (step c, d);
+          paid = λ z. absurd (z refl);
         }
 
     module _ (d : b ≡ false) {x : Unifier} where
@@ -181,6 +182,7 @@ module _ {img bytes : List ℕ} {u : Unifier} {a obj : ℕ} {key : Key} {b : Boo
             binds = promise_by (Err why) (keeps_charged {u = u} refl (keeps_from u.lo h'.keeps)) (λ σ t good q.
                 refuses_then (λ o s₁. unify_by_name (registry_of img bytes) (key_name img bytes key) σ s₁ t.0 o) (by_name c (registry_of img bytes) (key_name img bytes key) σ t.0 t.1 d) (h'.means σ t.1 good q.1));
             given = λ σ t good q. rw (step c, d, access_lookup, (h'.means σ t good q).is);
+            paid = λ z. absurd (z refl);
           }
 
       pub access_found : {n : ℕ} {y : Unifier} {r : Accessed} → Gives v obj x (Ok n)
@@ -197,10 +199,11 @@ module _ {img bytes : List ℕ} {u : Unifier} {a obj : ℕ} {key : Key} {b : Boo
             given = λ σ t good q.
                 let i = h'.means σ t good q in
                 rw (step c, d, access_lookup, i.1) (f.given i.0 i.2);
+            paid = λ z. omega (arith, step c, h'.spare.0, f.binds.keeps.paid.fewer);
           }
 
 -- what is asked at each call
-module _ {img bytes : List ℕ} {u : Unifier} {p : Places} {a obj : ℕ} {key : Key} (h : AccessAsked img bytes u p a obj key) where
+module _ {img : List ℕ} {u : Unifier} {p : Places} {a obj : ℕ} {key : Key} (h : AccessAsked img u p a obj key) where
   pub asked_fits : u.top ≤ length u.words.now
   asked_fits = room_fits h.known.room
 
@@ -208,12 +211,12 @@ module _ {img bytes : List ℕ} {u : Unifier} {p : Places} {a obj : ℕ} {key : 
   asked_placed m =
       let s = h.known.room.small in
       let f = asked_fits in
-      type_placed h.registry.names.laid h.known.good.nodes (omega arith) h.types m
+      type_placed h.registry.types.laid h.known.good.nodes (omega arith) h.types m
 
   pub refs_charged : {v : Unifier} → Charges u v (Ok tt) → RefsLaid v p
   refs_charged c = subst (λ (y : Unifier). RefsLaid y p) (sym c.1) (record { use_ref = h.refs.use_ref; ref_value = h.refs.ref_value })
 
-  pub asked_later : {v x : Unifier} {n : ℕ} → Charges u v (Ok tt) → Gives v obj x (Ok n) → AccessAsked img bytes x p a n key
+  pub asked_later : {v x : Unifier} {n : ℕ} → Charges u v (Ok tt) → Gives v obj x (Ok n) → AccessAsked img x p a n key
   asked_later {x = x} {n = n} c g =
       let g' : Gives (charged u) obj x (Ok n) = subst (λ (y : Unifier). Gives y obj x (Ok n)) c.1 g in
       let K = keeps_charged {u = u} refl g'.keeps in

@@ -3,11 +3,10 @@ use Rattle.std.proofs.Common.{◌≡◌, refl, sym, ap, subst, Bool, true, false
 use Rattle.image.specs.Refusals.{number}
 use Rattle.image.specs.declared.refusal.Refusal.{Refusal}
 use Rattle.image.specs.declared.refusal.Refusal.TheVariants.{Cycle}
-use Rattle.image.specs.Ty.{Ty}
-use Rattle.unifier_definition.specs.Log.{Log, insert}
+use Rattle.unifier_definition.specs.Log.{insert}
 use Rattle.unifier_definition.specs.Outcome.{cycle, out_of_steps, number_of, and_then}
 use Rattle.unifier_definition.specs.Unify.{bind_resolved, bind_checked}
-use Rattle.unifier_nodes.specs.States.{with_binding, Known, RepIn, GoodIn}
+use Rattle.unifier_nodes.specs.States.{with_binding, Known}
 use Rattle.unifier_nodes.specs.Promises.{TellsMention, Readable, Checks, Rewrites, LogIn, BindsSlot}
 use Rattle.unifier_nodes.specs.declared.state.Unifier.{Unifier}
 use Rattle.unifier_nodes.proofs.Promised.{keeps_trans, keeps_steps, room_kept, refuses_then, comes_as, promise_by}
@@ -57,44 +56,29 @@ module _ {u x : Unifier} (slot : ℕ) {n : ℕ} where
           (insert slot p.0.value p.0.log, rw (p.1, sym (a.is x.top p.0.value fits p.2.1), and_then), put_good x m (resolved_lo low) fits p.2.1 p.2.0)) in
           subst (λ (z : Unifier). BindsSlot bind_resolved u slot n z (Ok tt)) (sym e) put
 
--- `bind_checked`
-module _ {u x : Unifier} {slot n : ℕ} (k : Known u n) where
-  pub checked_refused : {why : Refusal} → Checks u x slot n (Err why) → BindsSlot bind_checked u slot n x (Err why)
+-- `bind_checked`, where so many steps are left after `occurs_check`: words are as they were
+module _ {u : Unifier} {l slot n : ℕ} (k : Known u n) where
+  pub checked_refused : {why : Refusal} → Checks u.words.now u.lo u.left l slot n (Err why) → BindsSlot bind_checked u slot n (record u { left = l }) (Err why)
   unfolding bind_checked and_then number number_of
-  checked_refused {why} c = promise_by (Err why) (keeps_steps c.only_steps c.fewer) (λ σ t good rep.
+  checked_refused {why} c = promise_by (Err why) (keeps_steps refl c.fewer) (λ σ t good rep.
       let a = c.is u.top σ t (room_fits k.room) good rep in
-      record {
-        why = out_of_steps;
-        log = σ;
-        is = rw (a.2, a.1);
-        by_number = ap number a.0;
-        good = subst (λ (z : Unifier). GoodIn z σ) (sym c.only_steps) good;
-      })
+      record { why = out_of_steps; log = σ; is = rw (a.2, a.1); by_number = ap number a.0; good = good })
 
-  -- only steps were spent, and the words are as they were
-  module _ {b : Bool} (c : Checks u x slot n (Ok b)) where
-    good_still : {σ : Log} → GoodIn u σ → GoodIn x σ
-    good_still {σ} g = subst (λ (z : Unifier). GoodIn z σ) (sym c.only_steps) g
+  pub checked_known : {b : Bool} → Checks u.words.now u.lo u.left l slot n (Ok b) → Known (record u { left = l }) n
+  checked_known c = record { room = room_kept (keeps_steps {from = 0} {v = record u { left = l }} refl c.fewer) k.room; σ = k.σ; t = k.t; good = k.good; rep = k.rep }
 
-    rep_still : {t : Ty} → RepIn u n t → RepIn x n t
-    rep_still {t} r = subst (λ (z : Unifier). RepIn z n t) (sym c.only_steps) r
-
-    pub checked_known : Known x n
-    checked_known = record { room = room_kept (keeps_steps {from = 0} c.only_steps c.fewer) k.room; σ = k.σ; t = k.t; good = good_still k.good; rep = rep_still k.rep }
-
-    pub checked_lo : slot < u.lo → slot < x.lo
-    checked_lo l = let e = ap (λ (z : Unifier). z.lo) c.only_steps in omega arith
-
-  pub checked_yes : {y : Unifier} (r : Result (Unit {0}) Refusal) → Checks u x slot n (Ok true) → BindsSlot bind_resolved x slot n y r → BindsSlot bind_checked u slot n y r
+  pub checked_yes : {y : Unifier} (r : Result (Unit {0}) Refusal) → Checks u.words.now u.lo u.left l slot n (Ok true)
+      → BindsSlot bind_resolved (record u { left = l }) slot n y r → BindsSlot bind_checked u slot n y r
   unfolding bind_checked and_then
   checked_yes {y} r c h =
-      let h' : BindsSlot bind_resolved (record u { left = x.left }) slot n y r = subst (λ (z : Unifier). BindsSlot bind_resolved z slot n y r) c.only_steps h in
-      promise_by r (keeps_trans (keeps_steps refl c.fewer) h'.keeps) (λ σ t good rep. comes_as LogIn y r (rw (c.is u.top σ t (room_fits k.room) good rep)) (h'.means σ t good rep))
+      promise_by r (keeps_trans (keeps_steps refl c.fewer) h.keeps) (λ σ t good rep. comes_as LogIn y r (rw (c.is u.top σ t (room_fits k.room) good rep)) (h.means σ t good rep))
 
-  pub checked_no : {y : Unifier} → slot < u.lo → Checks u x slot n (Ok false) → y ≡ with_binding x slot n → BindsSlot bind_checked u slot n y (Ok tt)
+  pub checked_no : {y : Unifier} → slot < u.lo → Checks u.words.now u.lo u.left l slot n (Ok false) → y ≡ with_binding (record u { left = l }) slot n
+      → BindsSlot bind_checked u slot n y (Ok tt)
   unfolding bind_checked and_then
   checked_no {y} low c e =
-      let fits = room_fits (checked_known c).room in
-      let put : BindsSlot bind_checked u slot n (with_binding x slot n) (Ok tt) = promise_by (Ok tt) (keeps_put n (keeps_steps c.only_steps c.fewer) low k.good.nodes k.room) (λ σ t good rep.
-      (insert slot t σ, rw (c.is u.top σ t (room_fits k.room) good rep), put_good x n (checked_lo c low) fits (rep_still c rep) (good_still c good))) in
+      let x : Unifier = record u { left = l } in
+      let fits = room_fits k.room in
+      let put : BindsSlot bind_checked u slot n (with_binding x slot n) (Ok tt) = promise_by (Ok tt) (keeps_put n (keeps_steps refl c.fewer) low k.good.nodes k.room) (λ σ t good rep.
+      (insert slot t σ, rw (c.is u.top σ t fits good rep), put_good x n low fits rep good)) in
       subst (λ (z : Unifier). BindsSlot bind_checked u slot n z (Ok tt)) (sym e) put

@@ -16,7 +16,7 @@ use Rattle.unifier_definition.specs.Unify.{bind_checked, binding_of, bind_unboun
 use Rattle.unifier_nodes.specs.Work.{at, Leaf, leaf_prim, leaf_poly, leaf_method, leaf_object, Rep, rep_var, rep_leaf, rep_func, rep_phi}
 use Rattle.unifier_nodes.specs.Walks.{ReadsNode, TellsKind}
 use Rattle.unifier_nodes.specs.States.{charged, Charges, RepIn, Known, KnownBoth}
-use Rattle.unifier_nodes.specs.Promises.{StandBoth, Equals, LogIn, Binds, BindsSlot, UnifiesNodes}
+use Rattle.unifier_nodes.specs.Promises.{Equals, LogIn, Binds, BindsSlot, UnifiesNodes}
 use Rattle.unifier.specs.Choices.{unify_as_functions}
 use Rattle.unifier_nodes.specs.declared.node.Node.{Node}
 use Rattle.unifier_nodes.specs.declared.node.Node.TheVariants.{Var, Primitive, Poly, ObjectMethod, Object, Function, Phi}
@@ -232,28 +232,12 @@ module _ {v : Unifier} {a b : ℕ} (k : KnownBoth v a b) where
           let z = h'.shows v.top p.1 (room_fits k.room) q.1 in
           comes_as LogIn x r (when_functions σ v.left p.0 p.1 y.2 z.2 (sym y.3 ∙ c ∙ z.3)) (b.means σ (y.1, z.1) good (y.5, z.5)))
 
-      -- the return types of two Functions
-      pub known_returns : KnownBoth v m m'
-      known_returns =
-          let y = h.shows v.top k.t (room_fits k.room) k.left in
-          let z = h'.shows v.top k.v (room_fits k.room) k.right in
-          record { room = k.room; σ = k.σ; t = y.1; v = z.1; good = k.good; left = y.5; right = z.5 }
-
   -- what is known at each call
   pub known_less : KnownBoth (charged v) a b
   known_less = record { room = room_charged {u = v} refl k.room; σ = k.σ; t = k.t; v = k.v; good = k.good; left = k.left; right = k.right }
 
-  pub known_left : Known v a
-  known_left = record { room = k.room; σ = k.σ; t = k.t; good = k.good; rep = k.left }
-
   pub known_right : Known v b
   known_right = record { room = k.room; σ = k.σ; t = k.v; good = k.good; rep = k.right }
-
-  pub known_swap : KnownBoth v b a
-  known_swap = record { room = k.room; σ = k.σ; t = k.v; v = k.t; good = k.good; left = k.right; right = k.left }
-
-  pub stand_both : StandBoth v.words.now v.lo a b
-  stand_both = record { top = v.top; t = k.t; u = k.v; fits = room_fits k.room; left = k.left; right = k.right }
 
 -- `bind_variable_to`, after its charge
 module _ {v : Unifier} {a n : ℕ} (k : KnownBoth v a n) where

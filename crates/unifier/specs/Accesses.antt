@@ -1,5 +1,5 @@
 -- `unify` with a Property on the right, over the work words: what it asks and what it promises. Assumes nothing.
-use Rattle.std.specs.Prelude.{ℕ, zero, suc, ◌≡◌, Bool, true, false, List}
+use Rattle.std.specs.Prelude.{ℕ, zero, suc, ◌+◌, ◌≤◌, ◌≡◌, Bool, true, false, List}
 use Rattle.std.proofs.Math.Option.{some}
 use Rattle.image.specs.Ty.{USE_REF, REF_VALUE, Ty, object}
 use Rattle.unifier_definition.specs.Log.{Log}
@@ -16,6 +16,7 @@ use Rattle.unifier.specs.declared.access.Accessed.{Accessed}
 use Rattle.unifier.specs.declared.access.Places.{Places}
 use Rattle.unifier_properties.specs.declared.Key.{Key}
 use Rattle.unifier_counts.specs.Given.{given_by}
+use Rattle.unifier_counts.specs.declared.GivenBy.TheVariants.{NoLookup}
 use Rattle.unifier_nodes.specs.declared.state.Unifier.{Unifier}
 
 -- `unify` of t with a Property of an object of type u, where it is a ref access
@@ -38,8 +39,8 @@ pub record RefsLaid (u : Unifier) (p : Places) : Type 0 where
   pub ref_value : RepIn u p.ref_value (object REF_VALUE)
 
 -- what `unify_property` asks: a checked image and a key of it, room, and nodes that stand for what they should
-pub record AccessAsked (img bytes : List ℕ) (u : Unifier) (p : Places) (a obj : ℕ) (key : Key) : Type 0 where
-  pub registry : RegistryInside img bytes
+pub record AccessAsked (img : List ℕ) (u : Unifier) (p : Places) (a obj : ℕ) (key : Key) : Type 0 where
+  pub registry : RegistryInside img
   pub key_inside : KeyInside img key
   pub known : KnownBoth u a obj
   pub types : TypesLaid u.words.now u.lo u.top p.types img
@@ -50,8 +51,9 @@ pub record Finds (reg : Registry) (name : PropertyNameKind) (u : Unifier) (a n :
   pub binds : Binds (unify_by_name reg name) u a n u' r.outcome
   pub given : (o : Ty) → RepIn u n o → r.given ≡ given_by (some (resolve_property_type reg o name))
 
--- the promise of `unify_property`. "The unifier passes this up": what gave the type, in a refusal too
+-- the promise of `unify_property`. "The unifier passes this up": what gave the type, in a refusal too; two steps pay for a lookup that was made
 pub record Accesses (img bytes : List ℕ) (u : Unifier) (a obj : ℕ) (key : Key) (ref_like : Bool) (u' : Unifier) (r : Accessed) : Type 0 where
   pub binds : Binds (unify_access ref_like (registry_of img bytes) (key_name img bytes key)) u a obj u' r.outcome
   pub given : (σ : Log) (t : Ty) → GoodIn u σ → RepIn u obj t
       → r.given ≡ given_by (access_lookup ref_like (registry_of img bytes) (key_name img bytes key) σ u.left t)
+  pub paid : (r.given ≡ NoLookup → ⊥) → u'.left + 2 ≤ u.left

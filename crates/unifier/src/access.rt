@@ -8,6 +8,7 @@ ghost use Rattle.unifier.specs.Accesses.{unify_as_ref, RefsLaid, Finds, AccessAs
 
 use crate::bind::unify;
 use image::refusal::Refusal;
+use image_views::NamedImage;
 use unifier_counts::GivenBy;
 use unifier_nodes::node::node_of_type;
 use unifier_nodes::state::Unifier;
@@ -63,19 +64,18 @@ fn unify_ref(unifier: &mut Unifier, p: Places, a: u32, obj: u32) -> Result<(), R
 
 // The type of this property, on what the object resolved to.
 fn unify_found(
-    img: &[u32],
-    bytes: &[u8],
+    image: &NamedImage,
     unifier: &mut Unifier,
     p: Places,
     a: u32,
     n: u32,
     key: Key,
 ) -> Accessed
-    requires { AccessAsked img.now bytes.now unifier.old p a n key }
-    ensures { Finds (registry_of img.now bytes.now) (key_name img.now bytes.now key) unifier.old a n unifier.new result }
+    requires { AccessAsked image.now.words unifier.old p a n key }
+    ensures { Finds (registry_of image.now.words image.now.names) (key_name image.now.words image.now.names key) unifier.old a n unifier.new result }
 {
     let shape = shape_of(unifier.node(n));
-    let found = resolve_property_type(img, bytes, shape, key);
+    let found = resolve_property_type(image, shape, key);
     let given = GivenBy::from(found);
     let Some(t) = number_of(found) else {
         return Accessed {
@@ -83,15 +83,14 @@ fn unify_found(
             given,
         };
     };
-    let to = node_of_type(img, p.types, t);
+    let to = node_of_type(image.image().words(), p.types, t);
     let outcome = unify(unifier, a, to);
     Accessed { outcome, given }
 }
 
 // The left side and a property of the object are made one; ref_like: the access is taken for one of a ref.
 pub fn unify_property(
-    img: &[u32],
-    bytes: &[u8],
+    image: &NamedImage,
     unifier: &mut Unifier,
     p: Places,
     a: u32,
@@ -99,8 +98,8 @@ pub fn unify_property(
     key: Key,
     ref_like: bool,
 ) -> Accessed
-    requires { AccessAsked img.now bytes.now unifier.old p a obj key }
-    ensures { Accesses img.now bytes.now unifier.old a obj key ref_like unifier.new result }
+    requires { AccessAsked image.now.words unifier.old p a obj key }
+    ensures { Accesses image.now.words image.now.names unifier.old a obj key ref_like unifier.new result }
 {
     if let Err(why) = unifier.charge() {
         return without_lookup(Err(why));
@@ -109,7 +108,7 @@ pub fn unify_property(
         return without_lookup(unify_ref(unifier, p, a, obj));
     }
     match get(unifier, obj) {
-        Ok(n) => unify_found(img, bytes, unifier, p, a, n, key),
+        Ok(n) => unify_found(image, unifier, p, a, n, key),
         Err(why) => without_lookup(Err(why)),
     }
 }

@@ -20,7 +20,7 @@ pub fn unify(unifier: &mut Unifier, a: u32, b: u32) -> Result<(), Refusal>
     ensures { UnifiesNodes unifier.old a b unifier.new result }
 {
     unifier.charge()?;
-    if unifier.type_equals(a, b) {
+    if unifier.nodes().type_equals(a, b) {
         return Ok(());
     }
     if a < unifier.lo {
@@ -60,6 +60,7 @@ pub fn bind_variable_to(unifier: &mut Unifier, v: u32, ty: u32) -> Result<(), Re
     let Node::Var(slot) = unifier.node(v) else {
         return Ok(());
     };
+    // One word tells it; as a `Node` three would be read.
     if unifier.kind(ty) == type_kinds::POLY {
         return Ok(());
     }
@@ -105,8 +106,8 @@ fn phi_candidate(
         }
         let n = unifier.words[at as usize + k as usize];
         let resolved = get(unifier, n)?;
-        if !unifier.type_equals(resolved, candidate) {
-            match unifier.try_union_types(resolved, candidate) {
+        if !unifier.nodes().type_equals(resolved, candidate) {
+            match unifier.nodes().try_union_types(resolved, candidate) {
                 Some(union) => candidate = union,
                 None => break None,
             }
@@ -149,8 +150,10 @@ fn bind_checked(unifier: &mut Unifier, slot: TypeId, ty: u32) -> Result<(), Refu
     requires slot_inside { slot.0 < unifier.old.lo }
     ensures { BindsSlot bind_checked unifier.old slot.0 ty unifier.new result }
 {
-    let occurs = occurs_check(unifier, slot, ty)?;
-    if occurs {
+    let mut left = unifier.left;
+    let occurs = occurs_check(&unifier.nodes(), &mut left, slot, ty);
+    unifier.left = left;
+    if occurs? {
         return bind_resolved(unifier, slot, ty);
     }
     unifier.bind(slot, ty);
@@ -164,7 +167,7 @@ fn bind_resolved(unifier: &mut Unifier, slot: TypeId, ty: u32) -> Result<(), Ref
     ensures { BindsSlot bind_resolved unifier.old slot.0 ty unifier.new result }
 {
     let resolved = try_resolve_type(unifier, slot, ty)?;
-    if unifier.mentions(resolved, slot) {
+    if unifier.nodes().mentions(resolved, slot) {
         return Err(Refusal::Cycle);
     }
     unifier.bind(slot, resolved);

@@ -4,10 +4,9 @@ use mathlib.Core.List.{List}
 use mathlib.Core.Option.{Option}
 use Prim.Native.Nat.{ℕ, ◌+◌, ◌≤◌, ◌<◌}
 use native.Mathlib.Omega.{arith}
-use lib.ListN.{length}
 use Rattle.image.specs.Ty.{Ty, Tys}
 use Rattle.unifier_definition.specs.Log.{Log}
-use Rattle.unifier_nodes.specs.Work.{at, Leaf, leaf_prim, leaf_poly, leaf_method, leaf_object, Rep, rep_var, rep_leaf, rep_func, rep_phi, Reps, reps_nil, reps_cons, Bound, unbound, bound, Good, Room, Frame, Paid}
+use Rattle.unifier_nodes.specs.Work.{at, Leaf, leaf_prim, leaf_poly, leaf_method, leaf_object, Rep, rep_var, rep_leaf, rep_func, rep_phi, Reps, reps_nil, reps_cons, Bound, unbound, bound, Good, Frame}
 use Rattle.unifier_nodes.specs.Walks.{Wrote, Copied}
 
 -- words from `from` on and below `to` agree
@@ -90,13 +89,3 @@ wrote_frame le h = record { len = h.len; grows = omega arith; below = λ k o l. 
 
 pub copied_frame : {w v : List ℕ} {to from c stack left : ℕ} → to + c ≤ stack → Copied w v to from c → Frame w v 0 to (to + c) stack left
 copied_frame le h = record { len = h.len; grows = omega arith; below = λ k o l. h.below k l; above = λ k l m. h.above k l; beyond = λ k l. h.above k (omega arith) }
-
--- room after steps were spent
-pub room_left : {w w' : List ℕ} {top left stack top' left' : ℕ} → length w' ≡ length w → Paid top left top' left' → Room w top left stack → Room w' top' left' stack
-room_left e p r =
-    let a = p.fewer in
-    let b = p.spent in
-    let c = r.heap in
-    let d = r.hand in
-    let f = r.small in
-    record { heap = omega arith; hand = omega arith; small = omega arith }

@@ -9,7 +9,7 @@ use Rattle.unifier_definition.specs.Outcome.{Outcome, done, and_then}
 use Rattle.unifier_definition.specs.Resolve.{get_body, get}
 use Rattle.unifier_nodes.specs.Work.{at, Rep, Reps, reps_nil, reps_cons, rep_func, rep_phi, Bound, unbound, bound, Good, Room, Frame}
 use Rattle.unifier_nodes.specs.Walks.{Stands, ReadsNode, Wrote}
-use Rattle.unifier_nodes.specs.States.{charged, Charges, with_made, Makes, MakesPhi, RoomFor, RoomIn, RepIn, GoodIn, Known, KnownAll, Keeps}
+use Rattle.unifier_nodes.specs.States.{charged, Charges, with_made, Makes, MakesPhi, RoomIn, RepIn, GoodIn, Known, KnownAll, Keeps}
 use Rattle.unifier_nodes.specs.Promises.{Promise, Gives, GivesAll}
 use Rattle.unifier_nodes.specs.declared.node.Node.{Node}
 use Rattle.unifier_nodes.specs.declared.node.Node.TheVariants.{Var, Primitive, Poly, ObjectMethod, Object, Function, Phi}
@@ -28,10 +28,6 @@ by_zero (suc x) f g = g (λ e. omega arith)
 pub is_free : {w : List ℕ} {lo top v : ℕ} {o : Option Ty} → v ≡ 0 → Bound w lo top v o → o ≡ none
 is_free z (unbound h) = refl
 is_free z (bound h r) = absurd (omega arith)
-
-pub is_bound : {w : List ℕ} {lo top v : ℕ} {o : Option Ty} → (v ≡ 0 → ⊥) → Bound w lo top v o → (t : Ty) × (o ≡ some t) × Rep w lo top (v - 1) t
-is_bound z (unbound h) = absurd (z h)
-is_bound {w} {lo} {top} z (bound {t = t} h r) = (t, refl, subst (λ (x : ℕ). Rep w lo top x t) (omega arith) r)
 
 pub bound_to : {w : List ℕ} {lo top v m : ℕ} {o : Option Ty} → v ≡ m + 1 → Bound w lo top v o → (t : Ty) × (o ≡ some t) × Rep w lo top m t
 bound_to z (unbound h) = absurd (omega arith)
@@ -300,9 +296,6 @@ module _ {v : Unifier} {n : ℕ} (k : Known v n) where
     pub known_low : s.0 < v.lo
     known_low = let q = h.shows v.top k.t (room_fits k.room) k.rep in let a = q.1 in let b = q.2 in omega arith
 
-    pub known_slot : s.0 < length v.words.now
-    known_slot = let a = known_low in let b = k.good.nodes in let f = room_fits k.room in omega arith
-
     pub known_bound : {m : ℕ} → at v.words.now s.0 ≡ m + 1 → Known v m
     known_bound z =
         let b = bound_to z (slot_bound (room_fits k.room) h k.good k.rep) in
@@ -313,17 +306,3 @@ module _ {v : Unifier} {n : ℕ} (k : Known v n) where
 
   pub known_phi : {a c : ℕ} → ReadsNode v.words.now v.lo n (Phi a c) → KnownAll v a c
   known_phi h = let q = h.shows v.top k.t (room_fits k.room) k.rep in record { room = k.room; σ = k.σ; ts = q.0; last = n; good = k.good; reps = q.3; many = q.2 }
-
--- and for a node, and so many words before it, after a charge and a call that left as many over
-pub room_for : {from : ℕ} {u v x : Unifier} (more : ℕ) → RoomIn u → Charges u v (Ok tt) → Keeps from v x → x.left + more ≤ v.left → x.top + 4 * x.left + more ≤ v.top + 4 * v.left → RoomFor x more
-room_for {from} {u} {v} {x} more room c k few spare =
-    let k' : Keeps from (charged u) x = subst (λ (y : Unifier). Keeps from y x) c.1 k in
-    let top : v.top ≡ u.top = ap (λ (y : Unifier). y.top) c.1 in
-    let left : v.left ≡ u.left - 1 = ap (λ (y : Unifier). y.left) c.1 in
-    let z = c.0 in
-    let hp = room.heap in
-    let hd = room.hand in
-    let sm = room.small in
-    let len = k'.frame.len in
-    let st = k'.stack in
-    record { heap = omega arith; hand = omega arith; small = omega arith }

@@ -22,12 +22,6 @@ unfolding function_kind
 function_kinds false = omega arith
 function_kinds true = omega arith
 
-leaf_kinds : {t : Ty} {k a : ℕ} → Leaf t k a → (1 ≤ k) × (k ≤ 4)
-leaf_kinds (leaf_prim h) = omega arith
-leaf_kinds (leaf_poly h) = omega arith
-leaf_kinds (leaf_method h) = omega arith
-leaf_kinds (leaf_object h e) = omega arith
-
 -- what a kind says of the type
 pub data Kinded (w : List ℕ) (lo top n : ℕ) (t : Ty) : Type 0 where
   kinded_prim : at w n ≡ 1 → t ≡ prim → Kinded w lo top n t

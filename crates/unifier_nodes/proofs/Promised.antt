@@ -1,5 +1,7 @@
 -- Promises of the unifier's functions: one call after another, a step's charge, refusals handed on. Assumes nothing.
 use Rattle.std.proofs.Common.{◌≡◌, refl, sym, ap, ◌∙◌, subst, ℕ, suc, ◌+◌, ◌-◌, ◌*◌, ◌≤◌, ◌<◌, arith, List, Result, Ok, Err}
+use Rattle.std.specs.Prelude.{IsErrAnd}
+use Rattle.std.proofs.lemmas.Result.{err_from_is_err_and}
 use Rattle.image.specs.Refusals.{number}
 use Rattle.image.specs.declared.refusal.Refusal.{Refusal}
 use Rattle.image.specs.Ty.{Ty}
@@ -113,6 +115,10 @@ pub refuses_then : {w : List ℕ} {lo top left number : ℕ} {A B : Type 0} {out
     → Refuses w lo top left number out → Refuses w lo top left number out'
 unfolding and_then
 refuses_then k e h = record { why = h.why; log = h.log; is = e ∙ ap (λ o. and_then o k) h.is; by_number = h.by_number; good = h.good }
+
+-- what `?` hands on is the refusal itself
+pub handed_on : {A : Type 0} (r : Result A Refusal) {why : Refusal} → IsErrAnd r (λ y. y ≡ why) → r ≡ Err why
+handed_on r h = let p = err_from_is_err_and r h in p.1 ∙ ap Err p.2
 
 -- a refusal has a number
 some_number : (why : Due) → number_of why ≡ 0 → ⊥

@@ -1,13 +1,12 @@
 -- Stores in the work words, read back word by word. Assumes nothing.
-use mathlib.Core.Path.{◌≡◌, refl, ◌∙◌}
+use mathlib.Core.Path.{◌≡◌, ◌∙◌}
 use mathlib.Core.List.{List}
 use Prim.Native.Nat.{ℕ, ◌+◌, ◌≤◌, ◌<◌}
 use native.Mathlib.Omega.{arith}
 use lib.ListN.{length, set, length-set}
 use lib.Seq.{get_or-set_same, get_or-set_other}
-use borrow.Author.Count.{below_none, below_more}
 use Rattle.unifier_nodes.specs.Work.{at}
-use Rattle.unifier_nodes.specs.Walks.{with_node, Wrote, Copied}
+use Rattle.unifier_nodes.specs.Walks.{with_node, Wrote}
 
 pub at_same : (w : List ℕ) (i v : ℕ) → i < length w → at (set w i v) i ≡ v
 at_same w i v h = get_or-set_same w i v 0 h
@@ -39,22 +38,3 @@ wrote {w} {top = top} {k} {a} {b} h e = rw e (wrote_at w top k a b h)
 pub node_length : (w : List ℕ) (top k a b : ℕ) {w' : List ℕ} → w' ≡ with_node w top k a b → length w' ≡ length w
 unfolding with_node
 node_length w top k a b e = rw e (simp length-set)
-
-pub copied_none : (w : List ℕ) (to from : ℕ) → Copied w w to from 0
-copied_none w to from =
-    record { len = refl; words = below_none (λ (j : ℕ). at w (to + j) ≡ at w (from + j)); below = λ j lt. refl; above = λ j le. refl }
-
-pub copied_more : (w v : List ℕ) (to from c i : ℕ) → Copied w v to from i → i < c → to + c ≤ from → from + c ≤ length w
-    → Copied w (set v (to + i) (at v (from + i))) to from (i + 1)
-copied_more w v to from c i h lt apart fits =
-    let x : ℕ = at v (from + i) in
-    let u : List ℕ = set v (to + i) x in
-    let lv = h.len in
-    record {
-      len = length-set v (to + i) x ∙ lv;
-      words = below_more (λ (j : ℕ). at u (to + j) ≡ at w (from + j)) i
-          (λ j l. at_other v (to + i) (to + j) x (omega arith) ∙ h.words j l)
-          (at_same v (to + i) x (omega arith) ∙ h.above (from + i) (omega arith));
-      below = λ j l. at_other v (to + i) j x (omega arith) ∙ h.below j l;
-      above = λ j l. at_other v (to + i) j x (omega arith) ∙ h.above j (omega arith);
-    }

@@ -87,23 +87,20 @@ pub record ReadableAll (w : List ℕ) (lo a c : ℕ) : Type 0 where
   pub reps : Reps w lo top last top a ts
   pub many : c ≡ count_of ts
 
--- what the answer of `occurs_check` means
-abbrev pub OccursIs : Unifier → Log → Result Bool Refusal → Outcome Bool → Type 0
-OccursIs u' σ (Ok b) out = out ≡ done b u'.left
-OccursIs u' σ (Err why) out = (why ≡ OutOfSteps) × (u'.left ≡ 0) × (out ≡ refused out_of_steps 0 σ)
+-- what the answer of `occurs_check` means, where so many steps are left after it
+abbrev pub OccursIs : (left' : ℕ) → Log → Result Bool Refusal → Outcome Bool → Type 0
+OccursIs left' σ (Ok b) out = out ≡ done b left'
+OccursIs left' σ (Err why) out = (why ≡ OutOfSteps) × (left' ≡ 0) × (out ≡ refused out_of_steps 0 σ)
 
--- the promise of `occurs_check`, and of its loop over operands: nothing changes but the steps
-pub record Checks (u u' : Unifier) (v n : ℕ) (r : Result Bool Refusal) : Type 0 where
-  pub only_steps : u' ≡ record u { left = u'.left }
-  pub fewer : u'.left ≤ u.left
-  pub is : (top : ℕ) (σ : Log) (t : Ty) → top ≤ length u.words.now → Good u.words.now u.lo top σ → Rep u.words.now u.lo top n t
-      → OccursIs u' σ r (occurs_check σ u.left v t)
+-- the promise of `occurs_check`, and of its loop over operands
+pub record Checks (w : List ℕ) (lo left left' v n : ℕ) (r : Result Bool Refusal) : Type 0 where
+  pub fewer : left' ≤ left
+  pub is : (top : ℕ) (σ : Log) (t : Ty) → top ≤ length w → Good w lo top σ → Rep w lo top n t → OccursIs left' σ r (occurs_check σ left v t)
 
-pub record ChecksAll (u u' : Unifier) (v a c : ℕ) (r : Result Bool Refusal) : Type 0 where
-  pub only_steps : u' ≡ record u { left = u'.left }
-  pub fewer : u'.left ≤ u.left
-  pub is : (top last : ℕ) (σ : Log) (ts : Tys) → top ≤ length u.words.now → Good u.words.now u.lo top σ
-      → Reps u.words.now u.lo top last top a ts → c ≡ count_of ts → OccursIs u' σ r (occurs_in_operands (λ s t. occurs_check σ s v t) u.left ts)
+pub record ChecksAll (w : List ℕ) (lo left left' v a c : ℕ) (r : Result Bool Refusal) : Type 0 where
+  pub fewer : left' ≤ left
+  pub is : (top last : ℕ) (σ : Log) (ts : Tys) → top ≤ length w → Good w lo top σ → Reps w lo top last top a ts → c ≡ count_of ts
+      → OccursIs left' σ r (occurs_in_operands (λ s t. occurs_check σ s v t) left ts)
 
 -- The promise of a function that is this one of the definition, for every log that the words stand for and whatever is At the nodes it is
 -- given: what it keeps, what is left over where it finishes, and that its value Is the definition's or it is refused as there.

@@ -43,7 +43,12 @@ pub record RoomFor (u : Unifier) (more : ℕ) : Type 0 where
   pub hand : u.stack + more ≤ length u.words.now
   pub small : length u.words.now < 2 ^ 32
 
--- the promise of `charge`
+-- the promise of `charge`, of the steps that were left and those that are
+abbrev pub Takes : (left left' : ℕ) → Result Unit Refusal → Type 0
+Takes left left' (Ok x) = (left ≡ 0 → ⊥) × (left' ≡ left - 1)
+Takes left left' (Err why) = (left ≡ 0) × (why ≡ OutOfSteps) × (left' ≡ left)
+
+-- the same of a unifier, in which nothing else changes
 abbrev pub Charges : Unifier → Unifier → Result Unit Refusal → Type 0
 Charges u u' (Ok x) = (u.left ≡ 0 → ⊥) × (u' ≡ charged u)
 Charges u u' (Err why) = (u.left ≡ 0) × (why ≡ OutOfSteps) × (u' ≡ u)

@@ -1,9 +1,10 @@
 // Nodes, read as an enum; equality, unions, and what a type mentions.
 ghost use Rattle.std.specs.Prelude.{◌≡◌, ◌+◌, ◌≤◌, ◌<◌, ◌^◌, length};
 ghost use Rattle.unifier_nodes.specs.Walks.{Stands, ReadsNode, TellsKind, with_node, type_node, TypePlaced};
+ghost use Rattle.unifier_nodes.specs.Work.{at};
+ghost use Rattle.unifier_nodes.specs.States.{BindingIs};
 ghost use Rattle.unifier_nodes.specs.Promises.{StandBoth, StandAll, Leaves, Equals, TellsShape, UnitesWith, Unites, TellsMention, TellsMentionAll};
 
-use crate::state::Unifier;
 use image::{Table, TypeId, cell, shapes, type_kinds};
 
 // The words of a node.
@@ -16,34 +17,13 @@ pub enum Node {
     Poly,
     ObjectMethod,
     Object(u32),
-    // FUNCTION or CONSTRUCTOR; shape; return type
+    // FUNCTION or CONSTRUCTOR, a number since it is only compared with another and written again; shape; return type
     Function(u32, u32, u32),
     // where the operands stand, and how many they are
     Phi(u32, u32),
 }
 
-pub fn node_at(w: &[u32], lo: u32, n: u32) -> Node
-    requires { Stands w.now lo n }
-    ensures { ReadsNode w.now lo n result }
-{
-    if n < lo {
-        return Node::Var(TypeId(n));
-    }
-    let i = n as usize;
-    let kind = w[i];
-    let a = w[i + 1];
-    let b = w[i + 2];
-    match kind {
-        type_kinds::PRIMITIVE => Node::Primitive,
-        type_kinds::POLY => Node::Poly,
-        type_kinds::OBJECT_METHOD => Node::ObjectMethod,
-        type_kinds::OBJECT => Node::Object(a),
-        type_kinds::PHI => Node::Phi(a, b),
-        _ => Node::Function(kind, a, b),
-    }
-}
-
-// Writes a node's three words.
+// Writes a node's three words. The kind is a number, since it is the word that is written.
 pub fn put_node(w: &mut [u32], top: u32, kind: u32, a: u32, b: u32)
     requires { top + 3 ≤ length w.old }
     ensures { w.new ≡ with_node w.old top kind a b }
@@ -52,17 +32,6 @@ pub fn put_node(w: &mut [u32], top: u32, kind: u32, a: u32, b: u32)
     w[i] = kind;
     w[i + 1] = a;
     w[i + 2] = b;
-}
-
-// The kind of a node.
-pub fn kind_of(w: &[u32], lo: u32, n: u32) -> u32
-    requires { Stands w.now lo n }
-    ensures { TellsKind w.now lo n result }
-{
-    if n < lo {
-        return type_kinds::VAR;
-    }
-    w[n as usize]
 }
 
 // The node of a type of the image.
@@ -76,22 +45,57 @@ pub fn node_of_type(img: &[u32], types: u32, t: u32) -> u32
     types + NODE_WORDS * t
 }
 
-impl Unifier<'_> {
+// Words that hold types and bindings, and where the nodes start. It reads, and writes nothing. Whether a number is a node is no fact of
+// these words alone, so each function asks it of the number that it is given.
+#[derive(Clone, Copy)]
+pub struct Nodes<'a> {
+    pub words: &'a [u32],
+    pub lo: u32,
+}
+
+impl Nodes<'_> {
     pub fn node(&self, n: u32) -> Node
         requires { Stands self.now.words.now self.now.lo n }
         ensures { ReadsNode self.now.words.now self.now.lo n result }
     {
-        node_at(self.words, self.lo, n)
+        if n < self.lo {
+            return Node::Var(TypeId(n));
+        }
+        // The kind is a word of the node: here the number becomes a `Node`.
+        let i = n as usize;
+        let kind = self.words[i];
+        let a = self.words[i + 1];
+        let b = self.words[i + 2];
+        match kind {
+            type_kinds::PRIMITIVE => Node::Primitive,
+            type_kinds::POLY => Node::Poly,
+            type_kinds::OBJECT_METHOD => Node::ObjectMethod,
+            type_kinds::OBJECT => Node::Object(a),
+            type_kinds::PHI => Node::Phi(a, b),
+            _ => Node::Function(kind, a, b),
+        }
     }
 
+    // The kind of a node. A number, since it is one word of the node: `node` reads three.
     pub fn kind(&self, n: u32) -> u32
         requires { Stands self.now.words.now self.now.lo n }
         ensures { TellsKind self.now.words.now self.now.lo n result }
     {
-        kind_of(self.words, self.lo, n)
+        if n < self.lo {
+            return type_kinds::VAR;
+        }
+        self.words[n as usize]
     }
 
-    // Two nodes of one kind that is no Function.
+    // The node that a slot is bound to.
+    pub fn binding(&self, slot: TypeId) -> Option<u32>
+        requires { slot.0 < length self.now.words.now }
+        ensures { BindingIs (at self.now.words.now slot.0) result }
+    {
+        self.words[slot.0 as usize].checked_sub(1)
+    }
+
+    // Two nodes of one kind that is no Function. The kind is the word that was compared.
     fn leaves_equal(&self, a: u32, b: u32, kind: u32) -> bool
         requires { Leaves self.now.words.now self.now.lo a b kind }
         ensures { Equals self.now.words.now self.now.lo a b result }

@@ -1,8 +1,10 @@
 // What the unifier's functions work on.
 ghost use Rattle.std.specs.Prelude.{◌≡◌, ◌+◌, ◌<◌, ◌^◌, length};
 ghost use Rattle.unifier_nodes.specs.Work.{at};
-ghost use Rattle.unifier_nodes.specs.States.{Charges, BindingIs, with_binding};
+ghost use Rattle.unifier_nodes.specs.Walks.{Stands, ReadsNode, TellsKind};
+ghost use Rattle.unifier_nodes.specs.States.{Takes, Charges, BindingIs, with_binding};
 
+use crate::node::{Node, Nodes};
 use image::TypeId;
 use image::refusal::Refusal;
 
@@ -18,16 +20,48 @@ pub struct Unifier<'a> {
     pub stack: u32,
 }
 
+// A step is taken, if one is left.
+pub fn charge(left: &mut u32) -> Result<(), Refusal>
+    ensures { Takes left.old left.new result }
+{
+    if *left == 0 {
+        return Err(Refusal::OutOfSteps);
+    }
+    *left -= 1;
+    Ok(())
+}
+
 impl Unifier<'_> {
-    // A step is taken, if one is left.
+    // The same of its steps.
     pub fn charge(&mut self) -> Result<(), Refusal>
         ensures { Charges self.old self.new result }
     {
-        if self.left == 0 {
-            return Err(Refusal::OutOfSteps);
+        charge(&mut self.left)
+    }
+
+    // Its words, to be read.
+    pub fn nodes(&self) -> Nodes<'_>
+        ensures words { result.words.now ≡ self.now.words.now }
+        ensures lo { result.lo ≡ self.now.lo }
+    {
+        Nodes {
+            words: &self.words[..],
+            lo: self.lo,
         }
-        self.left -= 1;
-        Ok(())
+    }
+
+    pub fn node(&self, n: u32) -> Node
+        requires { Stands self.now.words.now self.now.lo n }
+        ensures { ReadsNode self.now.words.now self.now.lo n result }
+    {
+        self.nodes().node(n)
+    }
+
+    pub fn kind(&self, n: u32) -> u32
+        requires { Stands self.now.words.now self.now.lo n }
+        ensures { TellsKind self.now.words.now self.now.lo n result }
+    {
+        self.nodes().kind(n)
     }
 
     // The node that a slot is bound to.
@@ -35,7 +69,7 @@ impl Unifier<'_> {
         requires { slot.0 < length self.now.words.now }
         ensures { BindingIs (at self.now.words.now slot.0) result }
     {
-        self.words[slot.0 as usize].checked_sub(1)
+        self.nodes().binding(slot)
     }
 
     // The slot is bound to the node.

@@ -14,7 +14,8 @@ use Rattle.image.specs.declared.Table.TheVariants.{Types, Shapes, Properties}
 use Rattle.image.specs.Image.{count, cell, word, type_at, hook_type, Property, property_at, properties_from, shape_at}
 use Rattle.unifier_definition.specs.Cases.{shape_of}
 use Rattle.unifier_definition.specs.Property.{star_bytes, PropertyNameKind, string, number, computed, Registry, Rule, exact, star, hook, Found, nothing, found, or_else, entry, by_entry, by_hook_type, hook_rule, on_registered, on_shape, resolve_property_type}
-use Rattle.unifier_properties.specs.Lookup.{registry_of, answer, number_by_entry, or_later, number_by_hook, number_on_registered, number_on_shape, lookup_of, TypesInside, RegistryInside, RowsInside}
+use Rattle.unifier_properties.specs.Lookup.{registry_of, answer, number_by_entry, or_later, number_by_hook, number_on_registered, number_on_shape, some_shape, lookup_of, TypesInside, RegistryInside}
+use Rattle.std.proofs.Common.{Option as Maybe, Some, None}
 use Rattle.unifier_properties.specs.declared.Lookup.{Lookup}
 use Rattle.unifier_properties.specs.declared.Lookup.TheVariants.{Exact, Star, Hook, Nothing}
 use Rattle.unifier_properties.proofs.Lookups.{shape_past, shape_row}
@@ -26,18 +27,19 @@ found_in img (Star n) = found star (type_at img n)
 found_in img (Hook n) = found hook (type_at img n)
 found_in img Nothing = nothing
 
--- `resolve_property_type`, by the object's shape: NONE for no shape or another kind of type
-unfoldable pub lookup_shape : Registry → ℕ → PropertyNameKind → Found
-lookup_shape reg shape name =
-    elim (eqb shape NONE) [
-      | true ↦ hook_rule reg name
-      | false ↦ on_shape reg (get_or reg.shapes shape none) name
-    ]
+-- `resolve_property_type`, by the object's shape: none for no shape or another kind of type
+unfoldable pub lookup_shape : Registry → Maybe ℕ → PropertyNameKind → Found
+lookup_shape reg None name = hook_rule reg name
+lookup_shape reg (Some shape) name = on_shape reg (get_or reg.shapes shape none) name
 
 -- a lookup goes by the shape of the object's type
-pub lookup_by_shape : (reg : Registry) (t : Ty) (name : PropertyNameKind) → resolve_property_type reg t name ≡ lookup_shape reg (shape_of t) name
-unfolding resolve_property_type lookup_shape
-lookup_by_shape reg t name = refl
+pub lookup_by_shape : (reg : Registry) (t : Ty) (name : PropertyNameKind) → resolve_property_type reg t name ≡ lookup_shape reg (some_shape (shape_of t)) name
+unfolding resolve_property_type lookup_shape some_shape
+lookup_by_shape reg t name = go (eqb (shape_of t) NONE) refl
+  where
+    go : (b : Bool) → eqb (shape_of t) NONE ≡ b → resolve_property_type reg t name ≡ lookup_shape reg (some_shape (shape_of t)) name
+    go true q = rw (resolve_property_type, some_shape, q)
+    go false q = rw (resolve_property_type, some_shape, q)
 
 -- a lookup's type number is in its table
 abbrev pub NumberInside : List ℕ → Lookup → Type 0
@@ -101,25 +103,24 @@ hook_found {img} bytes h (string name) = go (is_hook_name name) refl (eqb (word 
 hook_found bytes h number = nothing_found _
 hook_found bytes h computed = nothing_found _
 
-module _ {img bytes : List ℕ} {first n : ℕ} (h : RowsInside img bytes first n) where
+module _ {img : List ℕ} (bytes : List ℕ) (first n : ℕ) (h : TypesInside img) (within : first + n ≤ count Properties img) where
   row_found : (rule : Rule) (text : List ℕ)
       → LookedUp img (number_by_entry rule (entry (properties_from img bytes first n) text)) (by_entry rule (entry (properties_from img bytes first n) text))
-  row_found rule text = entry_found rule h.registry.types (entry_from img bytes text (count Properties img) first n h.within)
+  row_found rule text = entry_found rule h (entry_from img bytes text (count Properties img) first n within)
 
   registered_found : (name : PropertyNameKind)
       → LookedUp img (number_on_registered img (properties_from img bytes first n) name) (on_registered (registry_of img bytes) (properties_from img bytes first n) name)
   unfolding number_on_registered on_registered
-  registered_found (string name) =
-      else_found _ (row_found exact name) (else_found _ (row_found star star_bytes) (hook_found bytes h.registry.types (string name)))
+  registered_found (string name) = else_found _ (row_found exact name) (else_found _ (row_found star star_bytes) (hook_found bytes h (string name)))
   registered_found number = row_found star star_bytes
   registered_found computed = row_found star star_bytes
 
 -- by the object's shape
-module _ {img bytes : List ℕ} (h : RegistryInside img bytes) (name : PropertyNameKind) where
+module _ {img : List ℕ} (bytes : List ℕ) (h : RegistryInside img) (name : PropertyNameKind) where
   row_shape_found : (s : ℕ) → s < count Shapes img → (b : Bool) → eqb (cell Shapes img s 0) 1 ≡ b
       → LookedUp img (number_on_shape img (shape_at img bytes s) name) (on_shape (registry_of img bytes) (shape_at img bytes s) name)
   unfolding number_on_shape on_shape shape_at
-  row_shape_found s l true q = rw (shape_at, q) (registered_found (record { registry = h; within = h.shape s l }) name)
+  row_shape_found s l true q = rw (shape_at, q) (registered_found bytes _ _ h.types (h.shape s l) name)
   row_shape_found s l false q = rw (shape_at, q) (nothing_found img)
 
   shape_found : (s : ℕ) (b : Bool) → ltb s (count Shapes img) ≡ b
@@ -128,10 +129,10 @@ module _ {img bytes : List ℕ} (h : RegistryInside img bytes) (name : PropertyN
   shape_found s true q = rw (shape_row img bytes s (ltb-true s _ q)) (row_shape_found s (ltb-true s _ q) (eqb (cell Shapes img s 0) 1) refl)
   shape_found s false q = rw (shape_past img bytes s (ltb-false s _ q)) (nothing_found img)
 
-  lookup_found : (shape : ℕ) (b : Bool) → eqb shape NONE ≡ b → LookedUp img (lookup_of img bytes shape name) (lookup_shape (registry_of img bytes) shape name)
+  lookup_found : (shape : Maybe ℕ) → LookedUp img (lookup_of img bytes shape name) (lookup_shape (registry_of img bytes) shape name)
   unfolding lookup_of lookup_shape
-  lookup_found shape true q = rw (lookup_of, lookup_shape, q) (hook_found bytes h.types name)
-  lookup_found shape false q = rw (lookup_of, lookup_shape, q) (shape_found shape (ltb shape (count Shapes img)) refl)
+  lookup_found None = hook_found bytes h.types name
+  lookup_found (Some shape) = shape_found shape (ltb shape (count Shapes img)) refl
 
-  pub looked_up : {r : Lookup} (shape : ℕ) → r ≡ lookup_of img bytes shape name → LookedUp img r (lookup_shape (registry_of img bytes) shape name)
-  looked_up shape e = rw e (lookup_found shape (eqb shape NONE) refl)
+  pub looked_up : {r : Lookup} (shape : Maybe ℕ) → r ≡ lookup_of img bytes shape name → LookedUp img r (lookup_shape (registry_of img bytes) shape name)
+  looked_up shape e = rw e (lookup_found shape)

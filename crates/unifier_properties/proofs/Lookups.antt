@@ -6,6 +6,7 @@ use mathlib.Core.Option.{Option, none, some}
 use Prim.Native.Nat.{ℕ, zero, suc, ◌+◌, ◌-◌, ◌/◌, ◌%◌, ◌≤◌, ◌<◌}
 use native.Mathlib.Omega.{arith}
 use native.Mathlib.Numerals.{add-one}
+use native.Mathlib.Nat.{add-sub_cancel_left}
 use lib.ListN.{get_or}
 use lib.Dec.{eqb, ltb}
 use borrow.Author.Tests.{eq-eqb, ne_eqb, ltb-true}
@@ -17,11 +18,10 @@ use Rattle.image.specs.declared.TypeId.{TypeId}
 use Rattle.image.specs.declared.Table.{Table}
 use Rattle.image.specs.declared.Table.TheVariants.{Names, Shapes, Properties}
 use Rattle.image.specs.Image.{count, cell, word, name_at, Property, property_at, properties_from, shape_at}
-use Rattle.image.specs.Laid.{InTable}
 use Rattle.image.specs.Program.{tabulate, tabulate_from}
 use Rattle.unifier_definition.specs.Cases.{shape_of}
 use Rattle.unifier_definition.specs.Property.{star_bytes, PropertyNameKind, string, number, computed, Rule, exact, star, entry}
-use Rattle.unifier_properties.specs.Lookup.{registry_of, key_name, entry_number, answer, number_by_entry, or_later, number_by_hook, number_on_registered, number_on_shape, lookup_of, RowsInside, KeyInside, LookupAsked, GivesShape}
+use Rattle.unifier_properties.specs.Lookup.{registry_of, key_name, entry_number, answer, number_by_entry, or_later, number_by_hook, number_on_registered, number_on_shape, some_shape, lookup_of, KeyInside, LookupAsked, GivesShape}
 use Rattle.unifier_nodes.specs.declared.node.Node.{Node}
 use Rattle.unifier_nodes.specs.declared.node.Node.TheVariants.{Var, Primitive, Poly, ObjectMethod, Object, Function, Phi}
 use Rattle.unifier_properties.specs.declared.Key.{Key}
@@ -39,7 +39,7 @@ shape_shown (Object s) = s
 shape_shown (Function k s m) = s
 shape_shown (Phi a c) = NONE
 
-shape_read : (node : Node) → GivesShape node (shape_shown node)
+shape_read : (node : Node) → GivesShape node (some_shape (shape_shown node))
 unfolding shape_of
 shape_read (Var s) = record { is = λ w lo top n t h. rw h.0 }
 shape_read Primitive = record { is = λ w lo top n t h. rw h }
@@ -49,30 +49,24 @@ shape_read (Object s) = record { is = λ w lo top n t h. rw h }
 shape_read (Function k s m) = record { is = λ w lo top n t h. rw h.2 }
 shape_read (Phi a c) = record { is = λ w lo top n t h. rw h.1 }
 
+-- NONE is no shape
+pub no_shape : None ≡ some_shape NONE
+unfolding some_shape
+no_shape = refl
+
 -- at the variant that a `match` found
-pub gives_shape : {r node : Node} → r ≡ node → GivesShape r (shape_shown node)
-gives_shape {r} {node} e = rw e (shape_read node)
+pub gives_shape : {r node : Node} {o : Maybe ℕ} → r ≡ node → o ≡ some_shape (shape_shown node) → GivesShape r o
+gives_shape {r} {node} e p = rw (e, p) (shape_read node)
 
-pub gives_none : {r : Node} → ((s : TypeId) × (r ≡ Var s)) ⊎ ((r ≡ Primitive) ⊎ ((r ≡ Poly) ⊎ (r ≡ ObjectMethod))) → GivesShape r NONE
-gives_none (inl (s, e)) = gives_shape e
-gives_none (inr (inl e)) = gives_shape e
-gives_none (inr (inr (inl e))) = gives_shape e
-gives_none (inr (inr (inr e))) = gives_shape e
+pub gives_none : {r : Node} → ((s : TypeId) × (r ≡ Var s)) ⊎ ((r ≡ Primitive) ⊎ ((r ≡ Poly) ⊎ (r ≡ ObjectMethod))) → GivesShape r None
+gives_none (inl (s, e)) = gives_shape e no_shape
+gives_none (inr (inl e)) = gives_shape e no_shape
+gives_none (inr (inr (inl e))) = gives_shape e no_shape
+gives_none (inr (inr (inr e))) = gives_shape e no_shape
 
--- property rows that are in their table
-module _ {img bytes : List ℕ} {first n : ℕ} (h : RowsInside img bytes first n) where
-  pub rows_few : first + n ≤ 65536
-  rows_few = let l = h.registry.names.laid in omega (arith, l.table Properties, l.short, h.within)
-
-  pub row_inside : (p k : ℕ) → p < first + n → k < 2 → InTable Properties img p k
-  row_inside p k l m = record { laid = h.registry.names.laid; row = omega (arith, h.within); column = m }
-
-  pub row_name : (p : ℕ) → p < first + n → cell Properties img p 0 < count Names img
-  row_name p l = h.registry.names.property p (omega (arith, h.within))
-
--- the entry among the rows from p up to e: the calls for row p gave its name, the name's bytes and the test of them
+-- the entry among the rows from p up to e: the calls for row p gave its name's bytes and the test of them
 module _ (img bytes text : List ℕ) (p e : ℕ) where
-  module _ {name : ℕ} {part : List ℕ} {t : Bool} (h : p < e) (d : name ≡ cell Properties img p 0) (f : part ≡ name_at img bytes name) (g : t ≡ same part text) where
+  module _ {part : List ℕ} {t : Bool} (h : p < e) (f : part ≡ name_at img bytes (cell Properties img p 0)) (g : t ≡ same part text) where
     row_test : {b : Bool} → t ≡ b → same (name_at img bytes (cell Properties img p 0)) text ≡ b
     row_test q = cc
 
@@ -133,14 +127,14 @@ module _ (img text : List ℕ) where
   unfolding number_by_hook
   no_hook_name e = rw (number_by_hook, e)
 
-  module _ (e : is_hook_name text ≡ true) where
-    pub no_hook_type : word img 2 ≡ NONE → Nothing ≡ number_by_hook img (string text)
+  module _ (e : is_hook_name text ≡ true) {hook : ℕ} (w : hook ≡ word img 2) where
+    pub no_hook_type : hook ≡ NONE → Nothing ≡ number_by_hook img (string text)
     unfolding number_by_hook
-    no_hook_type h = rw (number_by_hook, e, eq-eqb (word img 2) NONE h)
+    no_hook_type h = rw (number_by_hook, e, eq-eqb (word img 2) NONE (sym w ∙ h))
 
-    pub hook_type_found : (word img 2 ≡ NONE → ⊥) → Hook (word img 2) ≡ number_by_hook img (string text)
+    pub hook_type_found : (hook ≡ NONE → ⊥) → Hook hook ≡ number_by_hook img (string text)
     unfolding number_by_hook
-    hook_type_found h = rw (number_by_hook, e, ne_eqb (word img 2) NONE h)
+    hook_type_found h = rw (w, number_by_hook, e, ne_eqb (word img 2) NONE (λ q. h (w ∙ q)))
 
 -- digits are no hook name
 first_append : (xs : List ℕ) (d : ℕ) → get_or xs 0 0 ≤ 57 → d ≤ 57 → get_or (xs ++ (d ∷ [])) 0 0 ≤ 57
@@ -216,30 +210,23 @@ pub shape_row : (img bytes : List ℕ) (s : ℕ) → s < count Shapes img → ge
 unfolding registry_of
 shape_row img bytes s h = tabulate_at Shapes img (shape_at img bytes) none s h
 
--- the row of a shape that is one
-module _ {img bytes : List ℕ} {shape : ℕ} {key : Key} (h : LookupAsked img bytes key) (m : shape < count Shapes img) where
-  pub shape_word : (k : ℕ) → k < 3 → InTable Shapes img shape k
-  shape_word k l = record { laid = h.registry.names.laid; row = m; column = l }
+-- the rows of a shape: they lie in their table, and from the first up to the end they are those of its row
+module _ {img : List ℕ} {shape : ℕ} {key : Key} (h : LookupAsked img key) (m : shape < count Shapes img) where
+  pub rows_few : cell Shapes img shape 1 + cell Shapes img shape 2 ≤ 65536
+  rows_few = let l = h.registry.types.laid in let r = h.registry.shape shape m in omega (arith, l.table Properties, l.short)
 
-  pub shape_rows : {first n : ℕ} → first ≡ cell Shapes img shape 1 → n ≡ cell Shapes img shape 2 → RowsInside img bytes first n
-  shape_rows p q = record { registry = h.registry; within = rw (p, q) (h.registry.shape shape m) }
-
--- the answer by the object's shape: none, one past the table, one that is absent, one that is registered
+-- the answer by the object's shape: one past the table, one that is absent, one that is registered
 module _ (img bytes : List ℕ) (shape : ℕ) (name : PropertyNameKind) where
-  pub lookup_unshaped : shape ≡ NONE → number_by_hook img name ≡ lookup_of img bytes shape name
-  unfolding lookup_of
-  lookup_unshaped e = rw (lookup_of, eq-eqb shape NONE e)
-
-  pub lookup_past : {n : ℕ} → n ≡ count Shapes img → (shape ≡ NONE → ⊥) → n ≤ shape → Nothing ≡ lookup_of img bytes shape name
+  pub lookup_past : {n : ℕ} → n ≡ count Shapes img → n ≤ shape → Nothing ≡ lookup_of img bytes (Some shape) name
   unfolding lookup_of number_on_shape
-  lookup_past e m h = rw (lookup_of, ne_eqb shape NONE m, shape_past img bytes shape (omega arith))
+  lookup_past m h = rw (shape_past img bytes shape (omega arith))
 
-  module _ {present : ℕ} (m : shape ≡ NONE → ⊥) (h : shape < count Shapes img) (e : present ≡ cell Shapes img shape 0) where
-    pub lookup_absent : (present ≡ 1 → ⊥) → Nothing ≡ lookup_of img bytes shape name
+  module _ {present : ℕ} (h : shape < count Shapes img) (e : present ≡ cell Shapes img shape 0) where
+    pub lookup_absent : (present ≡ 1 → ⊥) → Nothing ≡ lookup_of img bytes (Some shape) name
     unfolding lookup_of number_on_shape shape_at
-    lookup_absent o = rw (lookup_of, ne_eqb shape NONE m, shape_row img bytes shape h, shape_at, ← e, ne_eqb present 1 o)
+    lookup_absent o = rw (shape_row img bytes shape h, shape_at, ← e, ne_eqb present 1 o)
 
     pub lookup_registered : {first n : ℕ} → present ≡ 1 → first ≡ cell Shapes img shape 1 → n ≡ cell Shapes img shape 2
-        → number_on_registered img (properties_from img bytes first n) name ≡ lookup_of img bytes shape name
+        → number_on_registered img (properties_from img bytes first (first + n - first)) name ≡ lookup_of img bytes (Some shape) name
     unfolding lookup_of number_on_shape shape_at
-    lookup_registered o p q = rw (lookup_of, ne_eqb shape NONE m, shape_row img bytes shape h, shape_at, ← e, eq-eqb present 1 o, p, q)
+    lookup_registered o p q = rw (shape_row img bytes shape h, shape_at, ← e, eq-eqb present 1 o, add-sub_cancel_left, p, q)

@@ -9,7 +9,7 @@ use Rattle.image.specs.Ty.{NONE}
 use Rattle.image.specs.declared.Table.{Table}
 use Rattle.image.specs.Image.{count}
 use Rattle.image.specs.Check.{in_table_or_none}
-use Rattle.image.proofs.Checked.{laid, names_inside, property_type, hook_sound, shape_inside}
+use Rattle.image.proofs.Checked.{laid, property_type, hook_sound, shape_inside}
 use Rattle.image.proofs.CheckPassed.{CheckedImage}
 use Rattle.unifier_properties.specs.Lookup.{RegistryInside}
 
@@ -18,12 +18,11 @@ in_table : (t : Table) (img : List ℕ) (n : ℕ) → in_table_or_none t img n �
 unfolding in_table_or_none
 in_table t img n e z = ltb-true _ _ (rw (ne_eqb n NONE z) at e)
 
--- refusals 1, 2, 5, 6 and 8
-pub registry_inside : (img bytes : List ℕ) (budget : ℕ) → CheckedImage img bytes budget → RegistryInside img bytes
+-- refusals 1, 5, 6 and 8
+pub registry_inside : (img bytes : List ℕ) (budget : ℕ) → CheckedImage img bytes budget → RegistryInside img
 registry_inside img bytes budget c =
     let l = laid img c.long c.short c.header in
     record {
-      names = names_inside img bytes l c.few c.references;
       types =
           record {
             laid = l;

@@ -1,11 +1,12 @@
 -- The property lookup over the image: its keys, and what its answers stand for. Assumes nothing.
-use Rattle.std.specs.Prelude.{ℕ, ◌+◌, ◌≤◌, ◌<◌, ◌≡◌, true, false, List, get_or, eqb, Option as Maybe, Some, None}
+use Rattle.std.specs.Prelude.{ℕ, ◌+◌, ◌-◌, ◌≤◌, ◌<◌, ◌≡◌, true, false, List, get_or, eqb, Option as Maybe, Some, None}
 use Rattle.std.proofs.Math.Option.{Option, none, some}
+use Rattle.std.specs.declared.ops.Range.{Range}
 use Rattle.names.specs.Names.{is_hook_name}
 use Rattle.names.specs.Digits.{digits}
 use Rattle.image.specs.Ty.{NONE, Ty}
-use Rattle.image.specs.Image.{word, count, cell, treats_refs, hook_type, name_at, shape_at, Property}
-use Rattle.image.specs.Laid.{Laid, NamesInside}
+use Rattle.image.specs.Image.{word, count, cell, treats_refs, hook_type, name_at, shape_at, Property, properties_from}
+use Rattle.image.specs.Laid.{Laid, Sources}
 use Rattle.image.specs.Program.{tabulate}
 use Rattle.image.specs.declared.Table.TheVariants.{Names, Types, Shapes, Properties}
 use Rattle.unifier_definition.specs.Cases.{shape_of}
@@ -27,6 +28,10 @@ key_name img bytes (String n) = string (name_at img bytes n)
 key_name img bytes (Position k) = string (digits k)
 key_name img bytes Number = number
 key_name img bytes Computed = computed
+
+-- the properties of these rows
+abbrev pub properties_in : Sources → Range ℕ → List Property
+properties_in image rows = properties_from image.words image.names rows.start (rows.end - rows.start)
 
 -- the type number of an entry
 unfoldable pub entry_number : Option Property → Maybe ℕ
@@ -73,13 +78,14 @@ unfoldable pub number_on_shape : List ℕ → Option (List Property) → Propert
 number_on_shape img none name = Nothing
 number_on_shape img (some ps) name = number_on_registered img ps name
 
--- `resolve_property_type` by type numbers and by the object's shape, NONE for no shape or another kind of type
-unfoldable pub lookup_of : (img bytes : List ℕ) → ℕ → PropertyNameKind → Lookup
-lookup_of img bytes shape name =
-    elim (eqb shape NONE) [
-      | true ↦ number_by_hook img name
-      | false ↦ number_on_shape img (get_or (registry_of img bytes).shapes shape none) name
-    ]
+-- the shape that a word says, NONE for no shape
+unfoldable pub some_shape : ℕ → Maybe ℕ
+some_shape word = elim (eqb word NONE) [ true ↦ None | false ↦ Some word ]
+
+-- `resolve_property_type` by type numbers and by the object's shape, none for no shape or another kind of type
+unfoldable pub lookup_of : (img bytes : List ℕ) → Maybe ℕ → PropertyNameKind → Lookup
+lookup_of img bytes None name = number_by_hook img name
+lookup_of img bytes (Some shape) name = number_on_shape img (get_or (registry_of img bytes).shapes shape none) name
 
 -- the types of properties and the hook type are in their table (refusal 6)
 pub record TypesInside (img : List ℕ) : Type 0 where
@@ -87,16 +93,10 @@ pub record TypesInside (img : List ℕ) : Type 0 where
   pub property : (n : ℕ) → n < count Properties img → cell Properties img n 1 < count Types img
   pub hook : (word img 2 ≡ NONE → ⊥) → word img 2 < count Types img
 
--- what a lookup reads of an image lies in its tables (refusals 1, 2, 5, 6 and 8)
-pub record RegistryInside (img bytes : List ℕ) : Type 0 where
-  pub names : NamesInside img bytes
+-- what a lookup reads of an image lies in its tables (refusals 6 and 8)
+pub record RegistryInside (img : List ℕ) : Type 0 where
   pub types : TypesInside img
   pub shape : (s : ℕ) → s < count Shapes img → cell Shapes img s 1 + cell Shapes img s 2 ≤ count Properties img
-
--- n property rows from `first` on are in their table
-pub record RowsInside (img bytes : List ℕ) (first n : ℕ) : Type 0 where
-  pub registry : RegistryInside img bytes
-  pub within : first + n ≤ count Properties img
 
 -- a key's name is in its table
 abbrev pub KeyInside : List ℕ → Key → Type 0
@@ -106,8 +106,8 @@ KeyInside img Number = Unit
 KeyInside img Computed = Unit
 
 -- what `resolve_property_type` asks: a checked image, and a key of it
-pub record LookupAsked (img bytes : List ℕ) (key : Key) : Type 0 where
-  pub registry : RegistryInside img bytes
+pub record LookupAsked (img : List ℕ) (key : Key) : Type 0 where
+  pub registry : RegistryInside img
   pub key_inside : KeyInside img key
 
 -- the type number that a lookup gives
@@ -118,5 +118,5 @@ lookup_number (Hook n) = Some n
 lookup_number Nothing = None
 
 -- the contract of `shape_of`: the shape of the type that the node shows
-pub record GivesShape (node : Node) (r : ℕ) : Type 0 where
-  pub is : (w : List ℕ) (lo top n : ℕ) (t : Ty) → Shows w lo top n node t → r ≡ shape_of t
+pub record GivesShape (node : Node) (r : Maybe ℕ) : Type 0 where
+  pub is : (w : List ℕ) (lo top n : ℕ) (t : Ty) → Shows w lo top n node t → r ≡ some_shape (shape_of t)

@@ -8,8 +8,8 @@ ghost use Rattle.unifier_nodes.specs.Promises.{Gives, GivesAll, Readable, Readab
 
 use image::refusal::Refusal;
 use image::{TypeId, type_kinds};
-use unifier_nodes::node::{NODE_WORDS, Node, put_node};
-use unifier_nodes::state::Unifier;
+use unifier_nodes::node::{NODE_WORDS, Node, Nodes, put_node};
+use unifier_nodes::state::{Unifier, charge};
 
 // Makes a node of these words.
 fn make_node(unifier: &mut Unifier, kind: u32, a: u32, b: u32) -> u32
@@ -76,38 +76,44 @@ fn get_all(unifier: &mut Unifier, at: u32, count: u32) -> Result<u32, Refusal>
     Ok(count)
 }
 
-// Whether the variable stands in the type, through bindings.
+// Whether the variable stands in the type, through bindings. It takes steps, and writes no words.
 #[cycle(occurrence)]
-pub fn occurs_check(unifier: &mut Unifier, v: TypeId, n: u32) -> Result<bool, Refusal>
-    requires { Readable unifier.old.words.now unifier.old.lo n }
-    ensures { Checks unifier.old unifier.new v.0 n result }
+pub fn occurs_check(nodes: &Nodes, left: &mut u32, v: TypeId, n: u32) -> Result<bool, Refusal>
+    requires { Readable nodes.now.words.now nodes.now.lo n }
+    ensures { Checks nodes.now.words.now nodes.now.lo left.old left.new v.0 n result }
 {
-    unifier.charge()?;
-    match unifier.node(n) {
+    charge(left)?;
+    match nodes.node(n) {
         Node::Var(slot) => {
             if slot.0 == v.0 {
                 return Ok(true);
             }
-            match unifier.binding(slot) {
-                Some(bound) => occurs_check(unifier, v, bound),
+            match nodes.binding(slot) {
+                Some(bound) => occurs_check(nodes, left, v, bound),
                 None => Ok(false),
             }
         }
-        Node::Function(_, _, return_type) => occurs_check(unifier, v, return_type),
-        Node::Phi(at, count) => occurs_any(unifier, v, at, count),
+        Node::Function(_, _, return_type) => occurs_check(nodes, left, v, return_type),
+        Node::Phi(at, count) => occurs_any(nodes, left, v, at, count),
         Node::Primitive | Node::Poly | Node::ObjectMethod | Node::Object(_) => Ok(false),
     }
 }
 
 // Whether it stands in one of the operands.
 #[cycle(occurrence)]
-fn occurs_any(unifier: &mut Unifier, v: TypeId, at: u32, count: u32) -> Result<bool, Refusal>
-    requires { ReadableAll unifier.old.words.now unifier.old.lo at count }
-    ensures { ChecksAll unifier.old unifier.new v.0 at count result }
+fn occurs_any(
+    nodes: &Nodes,
+    left: &mut u32,
+    v: TypeId,
+    at: u32,
+    count: u32,
+) -> Result<bool, Refusal>
+    requires { ReadableAll nodes.now.words.now nodes.now.lo at count }
+    ensures { ChecksAll nodes.now.words.now nodes.now.lo left.old left.new v.0 at count result }
 {
     for k in 0..count {
-        let n = unifier.words[at as usize + k as usize];
-        if occurs_check(unifier, v, n)? {
+        let n = nodes.words[at as usize + k as usize];
+        if occurs_check(nodes, left, v, n)? {
             return Ok(true);
         }
     }
@@ -152,7 +158,7 @@ fn resolve_variable(
     requires slots { (v.0 < unifier.old.lo) × (slot.0 < unifier.old.lo) }
     ensures { ResolvesBy 0 (λ σ s t. resolve_var (λ σ' s' t'. try_resolve_type σ' s' v.0 t') σ s slot.0 t) unifier.old substitution unifier.new result }
 {
-    if unifier.type_equals(substitution, slot.0) {
+    if unifier.nodes().type_equals(substitution, slot.0) {
         return Ok(substitution);
     }
     let resolved = try_resolve_type(unifier, v, substitution)?;

@@ -7,8 +7,8 @@ returns-then-not-is_hook_name c = no_hook_name _ _ (sym c.is_hook_name.ensures �
 
 pub returns-then-hook : goal.returns-then-hook
 returns-then-hook c =
-    no_hook_type _ _ (sym c.is_hook_name.ensures ∙ c.if-not-is_hook_name.false) c.if-hook.true
+    no_hook_type _ _ (sym c.is_hook_name.ensures ∙ c.if-not-is_hook_name.false) (rw c.image.ensures at c.word-hook.ensures) c.if-hook.true
 
 pub returns : goal.returns
 returns c =
-    hook_type_found _ _ (sym c.is_hook_name.ensures ∙ c.if-not-is_hook_name.false) c.if-hook.false
+    hook_type_found _ _ (sym c.is_hook_name.ensures ∙ c.if-not-is_hook_name.false) (rw c.image.ensures at c.word-hook.ensures) c.if-hook.false

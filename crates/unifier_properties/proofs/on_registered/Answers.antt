@@ -3,13 +3,11 @@ use Rattle.unifier_properties.specs.Lookup.{number_on_registered}
 use Rattle.unifier_properties.proofs.Lookups.{key_named, names_string, names_position, names_number, names_computed}
 use Rattle.unifier_properties.proofs.on_registered.Goals as goal
 
-pub name_bytes-requires : goal.name_bytes-requires
-name_bytes-requires c =
-    let h = c.requires in
-    (h.0.registry.names, key_named _ c.in-String.is h.1)
+pub name-requires : goal.name-requires
+name-requires c = key_named _ c.in-String.is c.requires
 
 pub returns-in-String : goal.returns-in-String
-returns-in-String c = rw (names_string _ _ c.in-String.is c.name_bytes.ensures) c.by_name.ensures
+returns-in-String c = rw (names_string _ _ c.in-String.is c.name.ensures) c.by_name.ensures
 
 pub returns-in-Position : goal.returns-in-Position
 returns-in-Position c = rw (names_position _ _ c.in-Position.is (c.as_slice.ensures ∙ c.digits_of.ensures)) c.by_name-in-Position.ensures

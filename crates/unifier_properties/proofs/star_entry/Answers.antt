@@ -6,7 +6,7 @@ use Rattle.unifier_properties.proofs.star_entry.Goals as goal
 
 pub returns-in-Some : goal.returns-in-Some
 unfolding answer
-returns-in-Some c = sym (entry_is star _ c.find_entry.ensures c.in-Some.is)
+returns-in-Some c = sym (entry_is star _ c.get.ensures c.in-Some.is)
 
 pub returns-in-None : goal.returns-in-None
-returns-in-None c = sym (entry_missing star _ c.find_entry.ensures c.in-None.is)
+returns-in-None c = sym (entry_missing star _ c.get.ensures c.in-None.is)

@@ -1,12 +1,11 @@
 use Rattle.std.proofs.Common.{arith}
 use Rattle.std.proofs.lemmas.Result.{err_from_is_err_and}
-use Rattle.unifier_nodes.proofs.Promised.{fewer_left}
 use Rattle.unifier_nodes.proofs.Getting.{read_as, plain_of}
-use Rattle.unifier_resolve.proofs.Occurring.{readable_bound, readable_charged, checks_spent, checks_plain, checks_same, checks_free, checks_bound, checks_func, checks_phi, trying_found, trying_refused, trying_more, trying_readable, trying_word, trying_done}
+use Rattle.unifier_resolve.proofs.Occurring.{readable_bound, checks_spent, checks_plain, checks_same, checks_free, checks_bound, checks_func, checks_phi, trying_found, trying_refused, trying_more, trying_readable, trying_word, trying_done}
 use Rattle.unifier_resolve.proofs.+occurrence.Goals as goal
 
-pub occurs_any-bounds-unifier-at : goal.occurs_any-bounds-unifier-at
-occurs_any-bounds-unifier-at t c = trying_word c.loop-k.invariant c.loop-k-test.true c.requires
+pub occurs_any-bounds-nodes-at : goal.occurs_any-bounds-nodes-at
+occurs_any-bounds-nodes-at t c = trying_word c.loop-k.invariant c.loop-k-test.true c.requires
 
 pub occurs_any-occurs_check-requires : goal.occurs_any-occurs_check-requires
 occurs_any-occurs_check-requires t c =
@@ -36,8 +35,7 @@ occurs_check-returns-then-slot-v t c = checks_same c.in_ok-charge.ensures (read_
 
 pub occurs_check-occurs_check-requires : goal.occurs_check-occurs_check-requires
 occurs_check-occurs_check-requires t c =
-    let k = readable_charged c.in_ok-charge.ensures c.requires in
-    (let f = fewer_left c.in_ok-charge.ensures in omega arith, readable_bound k (read_as c.in-Var.is c.node.ensures) c.in-Some.ensures)
+    (let f = c.in_ok-charge.ensures in omega (arith, f.0, f.1), readable_bound c.requires (read_as c.in-Var.is c.node.ensures) c.in-Some.ensures)
 
 pub occurs_check-returns-in-Some : goal.occurs_check-returns-in-Some
 occurs_check-returns-in-Some t c =

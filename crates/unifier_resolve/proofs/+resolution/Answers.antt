@@ -39,16 +39,16 @@ pub resolve_all-returns : goal.resolve_all-returns
 resolve_all-returns t c = rewriting_done c.loop-k.invariant c.loop-k-test.false
 
 pub resolve_variable-type_equals-requires : goal.resolve_variable-type_equals-requires
-resolve_variable-type_equals-requires t c = stands_beside 0 c.requires.known c.requires.slots.1
+resolve_variable-type_equals-requires t c = rw (c.nodes.ensures.words, c.nodes.ensures.lo) (stands_beside 0 c.requires.known c.requires.slots.1)
 
 pub resolve_variable-returns-then-type_equals : goal.resolve_variable-returns-then-type_equals
 resolve_variable-returns-then-type_equals t c =
-    variable_kept _ c.requires.known c.requires.slots.1 (rw c.if-type_equals.true at c.type_equals.ensures)
+    variable_kept _ c.requires.known c.requires.slots.1 (rw (c.nodes.ensures.words, c.nodes.ensures.lo, c.if-type_equals.true) at c.type_equals.ensures)
 
 pub resolve_variable-returns-in_err-resolved : goal.resolve_variable-returns-in_err-resolved
 resolve_variable-returns-in_err-resolved t c =
     let p = err_from_is_err_and c.from_residual.result c.from_residual.ensures.1 in
-    rw (p.1, p.2) (variable_refused _ c.requires.known c.requires.slots.1 (rw c.if-type_equals.false at c.type_equals.ensures) c.in_err-resolved.ensures)
+    rw (p.1, p.2) (variable_refused _ c.requires.known c.requires.slots.1 (rw (c.nodes.ensures.words, c.nodes.ensures.lo, c.if-type_equals.false) at c.type_equals.ensures) c.in_err-resolved.ensures)
 
 pub resolve_variable-bind-requires-clause-fits : goal.resolve_variable-bind-requires-clause-fits
 resolve_variable-bind-requires-clause-fits t c =
@@ -60,7 +60,7 @@ resolve_variable-bind-requires-clause-inside t c =
 
 pub resolve_variable-returns : goal.resolve_variable-returns
 resolve_variable-returns t c =
-    variable_bound _ c.requires.known c.requires.slots.1 (rw c.if-type_equals.false at c.type_equals.ensures) c.in_ok-resolved.ensures c.bind.ensures
+    variable_bound _ c.requires.known c.requires.slots.1 (rw (c.nodes.ensures.words, c.nodes.ensures.lo, c.if-type_equals.false) at c.type_equals.ensures) c.in_ok-resolved.ensures c.bind.ensures
 
 pub try_resolve_type-returns-in_err-charge : goal.try_resolve_type-returns-in_err-charge
 try_resolve_type-returns-in_err-charge t c =

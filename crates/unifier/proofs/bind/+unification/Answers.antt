@@ -100,22 +100,22 @@ unify-returns-in_err-charge t c =
 pub unify-returns-then-type_equals : goal.unify-returns-then-type_equals
 unify-returns-then-type_equals t c =
     let k = known_both_charged c.in_ok-charge.ensures c.requires in
-    unify_charged _ c.in_ok-charge.ensures (unify_same k (rw c.if-type_equals.true at c.type_equals.ensures))
+    unify_charged _ c.in_ok-charge.ensures (unify_same k (rw (c.nodes.ensures.words, c.nodes.ensures.lo, c.if-type_equals.true) at c.type_equals.ensures))
 
 pub unify-returns-then-a-unifier : goal.unify-returns-then-a-unifier
 unify-returns-then-a-unifier t c =
     let k = known_both_charged c.in_ok-charge.ensures c.requires in
-    unify_charged _ c.in_ok-charge.ensures (unify_left k (rw c.if-type_equals.false at c.type_equals.ensures) _ c.if-a-unifier.true c.bind_variable_to.ensures)
+    unify_charged _ c.in_ok-charge.ensures (unify_left k (rw (c.nodes.ensures.words, c.nodes.ensures.lo, c.if-type_equals.false) at c.type_equals.ensures) _ c.if-a-unifier.true c.bind_variable_to.ensures)
 
 pub unify-returns-then-b-unifier : goal.unify-returns-then-b-unifier
 unify-returns-then-b-unifier t c =
     let k = known_both_charged c.in_ok-charge.ensures c.requires in
-    unify_charged _ c.in_ok-charge.ensures (unify_right k (rw c.if-type_equals.false at c.type_equals.ensures) _ c.if-a-unifier.false c.if-b-unifier.true c.bind_variable_to-then-b-unifier.ensures)
+    unify_charged _ c.in_ok-charge.ensures (unify_right k (rw (c.nodes.ensures.words, c.nodes.ensures.lo, c.if-type_equals.false) at c.type_equals.ensures) _ c.if-a-unifier.false c.if-b-unifier.true c.bind_variable_to-then-b-unifier.ensures)
 
 pub unify-returns : goal.unify-returns
 unify-returns t c =
     let k = known_both_charged c.in_ok-charge.ensures c.requires in
-    unify_charged _ c.in_ok-charge.ensures (unify_neither k (rw c.if-type_equals.false at c.type_equals.ensures) _ c.if-a-unifier.false c.if-b-unifier.false c.unify_functions.ensures)
+    unify_charged _ c.in_ok-charge.ensures (unify_neither k (rw (c.nodes.ensures.words, c.nodes.ensures.lo, c.if-type_equals.false) at c.type_equals.ensures) _ c.if-a-unifier.false c.if-b-unifier.false c.unify_functions.ensures)
 
 pub unify_functions-returns-in_default : goal.unify_functions-returns-in_default
 unify_functions-returns-in_default t c = functions_first c.requires (opened c.in_default.in_default-own.keys2) c.node.ensures

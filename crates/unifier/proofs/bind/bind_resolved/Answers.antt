@@ -9,10 +9,10 @@ returns-in_err-resolved c =
     rw (p.1, p.2) (resolved_refused _ c.in_err-resolved.ensures)
 
 pub mentions-requires : goal.mentions-requires
-mentions-requires c = known_stands (resolved_known _ c.in_ok-resolved.ensures c.requires.known)
+mentions-requires c = rw (c.nodes.ensures.words, c.nodes.ensures.lo) (known_stands (resolved_known _ c.in_ok-resolved.ensures c.requires.known))
 
 pub returns-then-mentions : goal.returns-then-mentions
-returns-then-mentions c = resolved_cycle _ c.in_ok-resolved.ensures c.requires.known (rw c.if-mentions.true at c.mentions.ensures)
+returns-then-mentions c = resolved_cycle _ c.in_ok-resolved.ensures c.requires.known (rw (c.nodes.ensures.words, c.nodes.ensures.lo, c.if-mentions.true) at c.mentions.ensures)
 
 pub bind-requires : goal.bind-requires
 bind-requires c =
@@ -21,4 +21,4 @@ bind-requires c =
 
 pub returns : goal.returns
 returns c =
-    resolved_put _ c.in_ok-resolved.ensures c.requires.known c.requires.slot_inside (rw c.if-mentions.false at c.mentions.ensures) c.bind.ensures
+    resolved_put _ c.in_ok-resolved.ensures c.requires.known c.requires.slot_inside (rw (c.nodes.ensures.words, c.nodes.ensures.lo, c.if-mentions.false) at c.mentions.ensures) c.bind.ensures

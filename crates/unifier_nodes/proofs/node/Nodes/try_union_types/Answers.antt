@@ -1,5 +1,5 @@
 use Rattle.unifier_nodes.proofs.Equalities.{stands_left, stands_right, stands_swap, unites_left, unites_right, unites_none}
-use Rattle.unifier_nodes.proofs.state.Unifier.try_union_types.Goals as goal
+use Rattle.unifier_nodes.proofs.node.Nodes.try_union_types.Goals as goal
 
 pub is_object_of-requires : goal.is_object_of-requires
 is_object_of-requires c = stands_left c.requires

@@ -1,6 +1,6 @@
 use native.Mathlib.Omega.{arith}
 use Rattle.unifier_nodes.proofs.Equalities.{shape_none, shape_found, object_fits}
-use Rattle.unifier_nodes.proofs.state.Unifier.is_object_of.Goals as goal
+use Rattle.unifier_nodes.proofs.node.Nodes.is_object_of.Goals as goal
 
 pub kind-requires : goal.kind-requires
 kind-requires c = c.requires

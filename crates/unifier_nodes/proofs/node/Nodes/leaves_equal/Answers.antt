@@ -1,6 +1,6 @@
 use native.Mathlib.Omega.{arith}
 use Rattle.unifier_nodes.proofs.Equalities.{leaves_var, leaves_plain, leaves_object, leaves_fit, leaves_phi}
-use Rattle.unifier_nodes.proofs.state.Unifier.leaves_equal.Goals as goal
+use Rattle.unifier_nodes.proofs.node.Nodes.leaves_equal.Goals as goal
 
 pub overflow_add-result : goal.overflow_add-result
 overflow_add-result c = omega (arith, leaves_fit c.requires c.in-4.is)

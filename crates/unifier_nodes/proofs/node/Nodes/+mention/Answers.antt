@@ -1,7 +1,7 @@
 use native.Mathlib.Omega.{arith}
 use Rattle.unifier_nodes.proofs.Getting.{plain_of}
 use Rattle.unifier_nodes.proofs.Mentioning.{tells_var, tells_plain, tells_func, tells_phi, stands_func, stands_phi, seeking_none, seeking_next, seeking_found, seeking_more, seeking_end}
-use Rattle.unifier_nodes.proofs.state.Unifier.+mention.Goals as goal
+use Rattle.unifier_nodes.proofs.node.Nodes.+mention.Goals as goal
 
 pub mentions-node-requires : goal.mentions-node-requires
 mentions-node-requires t c = c.requires

@@ -1,7 +1,7 @@
 use Rattle.unifier_nodes.proofs.Equalities.{stands_left, stands_right, leaves, equals_differ, equals_no_function, equals_inside, stand_inside}
 use Rattle.unifier_nodes.proofs.Getting.{read_as}
 use borrow.Enum.Refused.{opened}
-use Rattle.unifier_nodes.proofs.state.Unifier.type_equals.Goals as goal
+use Rattle.unifier_nodes.proofs.node.Nodes.type_equals.Goals as goal
 
 pub loop-from-init : goal.loop-from-init
 loop-from-init c = (c.requires, λ r e. e)

@@ -1,5 +1,5 @@
 use Rattle.unifier_nodes.proofs.Equalities.{stands_right, unites_primitive, unites_array, unites_nothing}
-use Rattle.unifier_nodes.proofs.state.Unifier.union_with.Goals as goal
+use Rattle.unifier_nodes.proofs.node.Nodes.union_with.Goals as goal
 
 pub kind-requires : goal.kind-requires
 kind-requires c = stands_right c.requires

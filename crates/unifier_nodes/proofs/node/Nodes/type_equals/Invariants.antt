@@ -1,6 +1,6 @@
 use mathlib.Core.Bool.{Bool}
 use Rattle.unifier_nodes.specs.Promises.{StandBoth, Equals}
-use Rattle.unifier_nodes.proofs.state.Unifier.type_equals.Given as goal
+use Rattle.unifier_nodes.proofs.node.Nodes.type_equals.Given as goal
 
 abbrev pub invariant-loop-from : goal.invariant-loop-from
 invariant-loop-from l = StandBoth l.self.words.now l.self.lo l.x l.y × ((r : Bool) → Equals l.self.words.now l.self.lo l.x l.y r → Equals l.self.words.now l.self.lo l.a l.b r)

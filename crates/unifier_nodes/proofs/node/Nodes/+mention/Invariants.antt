@@ -1,6 +1,6 @@
 use Prim.Native.Nat.{◌+◌, ◌*◌, ◌-◌}
 use Rattle.unifier_nodes.proofs.Mentioning.{Seeking}
-use Rattle.unifier_nodes.proofs.state.Unifier.+mention.Given as goal
+use Rattle.unifier_nodes.proofs.node.Nodes.+mention.Given as goal
 
 abbrev pub decreases-mentions : goal.decreases-mentions
 decreases-mentions l = 2 * l.n + 1
