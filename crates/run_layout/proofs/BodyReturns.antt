@@ -1,5 +1,5 @@
 -- The slots that each function returns, laid out at its body's position: bodies share no word. Assumes nothing.
-use Prim.Native.Nat.{ℕ, zero, suc, ◌+◌, ◌*◌, ◌≤◌, ◌<◌}
+use Prim.Native.Nat.{ℕ, zero, suc, ◌+◌, ◌≤◌, ◌<◌}
 use mathlib.Core.Path.{◌≡◌, sym, ap, ◌∙◌}
 use mathlib.Core.Logic.{◌⊎◌, ⊎_elim}
 use mathlib.Core.List.{List}
@@ -13,8 +13,9 @@ use Rattle.run_definition.specs.Generate.{returned}
 use Rattle.run_definition.specs.Position.{terminal_place, after_block, blocks_at, after_blocks, context_place, blocks_place, body_from, after_body}
 use Rattle.run_definition.specs.Fitting.{BodyFits}
 use Rattle.run_layout.specs.Layout.{returned_by, ReturnsLaid}
-use Rattle.run_layout.specs.Laying.{Within, Lays, ReturnedAsked, LaysReturned, ReturnsAsked}
+use Rattle.run_layout.specs.Laying.{LaysPart, Within, Lays, PlacesLaid, BodiesApart, ReturnedAsked, LaysReturned}
 use Rattle.run_layout.specs.declared.Layout.{Layout}
+use Rattle.run_layout.specs.declared.Laying.{Laying}
 use Rattle.run_layout.proofs.LayingLaws.{lays_more}
 use Rattle.run_definition.proofs.PositionLaws.{after_block_least}
 use Rattle.run_layout.proofs.ReturnWalks.{returned_one, returned_none}
@@ -46,8 +47,8 @@ module _ (img : List ℕ) where
   body_long f = omega (arith, context_low (cell Functions img f 0), blocks_low (cell Functions img f 0), returned_few (word img (blocks_place img (cell Functions img f 0))) (blocks_place img (cell Functions img f 0) + 1))
 
 -- what `lay_returned` promises at a body's position is what is laid of the function
-return_laid : {img w v : List ℕ} {returns f : ℕ} → after_body img (cell Functions img f 0) ≤ length img
-    → LaysReturned img w v (returns + cell Functions img f 0) (blocks_place img (cell Functions img f 0) + 1) (word img (blocks_place img (cell Functions img f 0))) → ReturnsLaid img v returns f
+return_laid : {img w v : List ℕ} {lay : Layout} {f : ℕ} → after_body img (cell Functions img f 0) ≤ length img
+    → LaysReturned (lay.returns + cell Functions img f 0) (blocks_place img (cell Functions img f 0) + 1) (word img (blocks_place img (cell Functions img f 0))) img w v lay → ReturnsLaid img v lay.returns f
 unfolding returned_by body_from
 return_laid {img} {f = f} l h =
     let i = body_long img f in
@@ -70,38 +71,49 @@ module _ (img : List ℕ) {w v : List ℕ} (returns f k : ℕ) (apart : (after_b
       }
 
 -- after the first f functions
-module _ {img w₀ w : List ℕ} {lay : Layout} {f p : ℕ} (asked : ReturnsAsked img w₀ lay) (h : Lays (λ v g. ReturnsLaid img v lay.returns g) w₀ w lay.returns (lay.returns + length img) f) (l : f < count Functions img) (e : p ≡ cell Functions img f 0) where
+abbrev pub LaysFirst : ℕ → (l₀ l : Laying) → Type 0
+LaysFirst f = LaysPart (λ img w w' lay. Lays (λ v g. ReturnsLaid img v lay.returns g) w w' lay.returns (lay.returns + length img) f)
+
+module _ {l₀ l : Laying} {f p : ℕ} (slots : PlacesLaid l₀) (bodies : BodiesApart l₀.image.now) (g : LaysFirst f l₀ l) (lt : f < count Functions l₀.image.now) (e : p ≡ cell Functions l.image.now f 0) where
+  abbrev img : List ℕ
+  img = l₀.image.now
+
+  place : p ≡ cell Functions img f 0
+  place = rw g.image at e
+
   -- the next one's body, with its counts in the image
   next_body : BodyFits img f p
-  next_body = rw e (asked.bodies f l)
+  next_body = rw place (bodies.fits f lt)
 
-  pub context_inside : p + 3 + 2 * word img (p + 2) < length img
-  unfolding context_place
-  context_inside = omega (arith, next_body.places, blocks_low img p)
+  module _ {b : ℕ} (q : b ≡ blocks_place l.image.now p) where
+    here : b ≡ blocks_place img p
+    here = rw g.image at q
 
-  pub blocks_inside : p + 3 + 2 * word img (p + 2) + 1 + word img (p + 3 + 2 * word img (p + 2)) < length img
-  unfolding blocks_place context_place
-  blocks_inside = next_body.places
+    -- what is asked for its blocks
+    pub blocks_asked : ReturnedAsked l (l.lay.returns + p) (b + 1) (word l.image.now b)
+    blocks_asked =
+        let r = l.regions in
+        record {
+          fits = rw (g.image, here) (record { f = f; fits = next_body.blocks });
+          slots = λ k m.
+              let m₀ = rw g.image at m in
+              let r₀ = l₀.regions in
+              rw (g.image, g.lay, g.part.kept.below (l₀.lay.places + k) (omega arith)) (slots k m₀);
+          apart = omega arith;
+          room = omega (arith, here, context_low img p, blocks_low img p);
+        }
 
-  -- what is asked for its blocks
-  pub blocks_asked : ReturnedAsked img w lay (lay.returns + p) (blocks_place img p + 1) (word img (blocks_place img p))
-  blocks_asked =
-      let r = asked.regions in
-      record {
-        laid = r.laid;
-        fits = record { f = f; fits = next_body.blocks };
-        slots = λ k m. rw (h.kept.below (lay.places + k) (omega arith)) (asked.slots k m);
-        apart = omega arith;
-        room = omega (arith, h.kept.len, context_low img p, blocks_low img p);
-      }
-
-  -- its slots after theirs
-  pub returns_more : {v : List ℕ} → LaysReturned img w v (lay.returns + p) (blocks_place img p + 1) (word img (blocks_place img p))
-      → Lays (λ v g. ReturnsLaid img v lay.returns g) w₀ v lay.returns (lay.returns + length img) (f + 1)
-  unfolding returned_by body_from
-  returns_more g₀ =
-      let b = asked.bodies f l in
-      let g = rw e at g₀ in
-      lays_more h g.kept (omega arith) (omega (arith, body_long img f, b.inside))
-      (λ k m r. return_kept img lay.returns f k (asked.apart k f m l) g.kept r)
-      (return_laid b.inside g)
+    -- its slots after theirs
+    pub returns_more : {l' : Laying} → LaysPart (LaysReturned (l.lay.returns + p) (b + 1) (word l.image.now b)) l l' → LaysFirst (f + 1) l₀ l'
+    unfolding returned_by body_from
+    returns_more {l'} h₀ =
+        let c = bodies.fits f lt in
+        let h : LaysReturned (l₀.lay.returns + cell Functions img f 0) (blocks_place img (cell Functions img f 0) + 1) (word img (blocks_place img (cell Functions img f 0))) img l.words.now l'.words.now l₀.lay = rw (q, e, g.image, g.lay) at h₀.part in
+        record {
+          image = h₀.image ∙ g.image;
+          lay = h₀.lay ∙ g.lay;
+          same = h₀.same ∙ g.same;
+          part = lays_more g.part h.kept (omega arith) (omega (arith, body_long img f, c.inside))
+              (λ k m r. return_kept img l₀.lay.returns f k (bodies.apart k f m lt) h.kept r)
+              (return_laid c.inside h);
+        }

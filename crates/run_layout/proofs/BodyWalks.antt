@@ -3,21 +3,18 @@ use Prim.Native.Nat.{ℕ, suc, ◌+◌, ◌-◌, ◌*◌, ◌≤◌, ◌<◌}
 use mathlib.Core.Path.{◌≡◌, refl, sym, ap, subst, ◌∙◌}
 use mathlib.Core.List.{List}
 use native.Mathlib.Omega.{arith}
-use native.Mathlib.Nat.{sub-zero}
 use lib.ListN.{length}
 use Rattle.image.specs.Image.{word}
-use Rattle.run_definition.specs.Position.{after_phi, after_phis, after_instruction, after_instructions, after_block, after_blocks}
-use Rattle.run_definition.specs.Fitting.{PhiFits, PhisFit, no_phi, phi_then, InstructionFits, InstructionsFit, no_instruction, instruction_then, BlockFits, BlocksFit, no_block, block_then}
-use Rattle.run_layout.specs.Laying.{SomeInstructions, SomeBlocks}
+use Rattle.run_definition.specs.Position.{after_phi, after_phis, after_instruction, after_instructions, count_place, terminal_place, after_block, after_blocks}
+use Rattle.run_definition.specs.Fitting.{PhiFits, PhisFit, no_phi, phi_then, InstructionFits, InstructionsFit, no_instruction, instruction_then, BlocksFit, no_block, block_then}
+use Rattle.run_definition.proofs.PositionLaws.{terminal_place_least, after_block_least}
+use Rattle.run_layout.specs.Regions.{SomeInstructions, SomeBlock, SomeBlocks}
 
 -- after i of n parts from a position on: those left fit, and end where all do
 pub record Walk (Fit : ℕ → ℕ → Type 0) (after : ℕ → ℕ → ℕ) (from n at i : ℕ) : Type 0 where
   pub within : i ≤ n
   pub fits : Fit at (n - i)
   pub ends : after at (n - i) ≡ after from n
-
-pub walk_start : (Fit : ℕ → ℕ → Type 0) (after : ℕ → ℕ → ℕ) (from n : ℕ) → Fit from n → Walk Fit after from n from 0
-walk_start Fit after from n h = record { within = omega arith; fits = rw sub-zero h; ends = rw sub-zero }
 
 -- what a walk's parts are: each fits, and the next starts where it ends
 pub record Parts (Fit : ℕ → ℕ → Type 0) (after : ℕ → ℕ → ℕ) (One : ℕ → Type 0) (next : ℕ → ℕ) : Type 0 where
@@ -45,11 +42,6 @@ module _ {Fit : ℕ → ℕ → Type 0} {after : ℕ → ℕ → ℕ} {One : ℕ
   walk_end l =
       let q : n - i ≡ 0 = omega arith in
       sym (ap (after at) q ∙ p.stop at) ∙ h.ends
-
--- a block of some function
-pub record SomeBlock (img : List ℕ) (at : ℕ) : Type 0 where
-  pub f : ℕ
-  pub fits : BlockFits img f at
 
 module _ {img : List ℕ} where
   phi_first : {at n m : ℕ} → n ≡ suc m → PhisFit img at n → PhiFits img at × PhisFit img (after_phi img at) m
@@ -94,3 +86,28 @@ module _ {img : List ℕ} where
   pub block_parts : Parts (SomeBlocks img) (after_blocks img) (SomeBlock img) (after_block img)
   unfolding after_blocks
   block_parts = record { one = block_first; step = λ at n. refl; stop = λ at. refl }
+
+-- where a block's parts stand
+module _ {img : List ℕ} {p : ℕ} (h : SomeBlock img p) where
+  pub block_long : p + 4 ≤ length img
+  unfolding after_block
+  block_long = omega (arith, after_block_least img p, h.fits.inside)
+
+  pub terminal_inside : terminal_place img p + 2 ≤ length img
+  unfolding after_block
+  terminal_inside = h.fits.inside
+
+  module _ {a : ℕ} (e : a ≡ after_phis img (p + 1) (word img p)) where
+    is_count : a ≡ count_place img p
+    unfolding count_place
+    is_count = e
+
+    pub count_inside : a + 3 ≤ length img
+    count_inside = omega (arith, is_count, terminal_place_least img p, terminal_inside)
+
+    pub block_instructions : SomeInstructions img (a + 1) (word img a)
+    block_instructions = record { f = h.f; fits = rw is_count h.fits.instructions }
+
+    pub is_terminal : {b : ℕ} → b ≡ after_instructions img (a + 1) (word img a) → b ≡ terminal_place img p
+    unfolding terminal_place
+    is_terminal q = rw (← is_count) q

@@ -19,10 +19,12 @@ use Rattle.image.proofs.CheckPassed.{CheckedImage}
 use Rattle.image.proofs.TypeRows.{types_rows, type_rules}
 use Rattle.unifier_nodes.specs.Work.{at, leaf_prim, leaf_method, leaf_object, rep_leaf}
 use Rattle.run_layout.specs.Layout.{layout_of, OwnLaid, ReturnsLaid, LayAsked, LaysOut}
-use Rattle.run_layout.specs.Laying.{ImageFits, Regions, TypesAsked, EntriesAsked, OwnAsked, LaysOwn, ReturnsAsked, LaysTypes, LaysLists, LaysPlaces, LaysReturns, LaysEntries}
+use Rattle.run_layout.specs.Regions.{ImageFits, Regions}
+use Rattle.run_layout.specs.Laying.{LaysPart, TypesSound, SlotsTyped, BodiesApart, LaysOwn, LaysTypes, LaysLists, LaysPlaces, LaysReturns, LaysEntries}
 use Rattle.run_layout.specs.declared.Layout.{Layout}
+use Rattle.run_layout.specs.declared.Laying.{Laying}
 use Rattle.run_definition.proofs.PositionsBody.{checked, body_fits, body_ends}
-use Rattle.run_layout.proofs.LayingLaws.{regions_later, row_same}
+use Rattle.run_layout.proofs.LayingLaws.{row_same}
 use Rattle.run_layout.proofs.TypeNodes.{types_stand}
 
 either : (a b : Bool) → a || b ≡ true → (a ≡ true) ⊎ (b ≡ true)
@@ -76,82 +78,116 @@ module _ {img w : List ℕ} {budget : ℕ} (asked : LayAsked img w budget) where
         small = omega arith;
       }
 
-  module _ {lay : Layout} (is : lay ≡ layout_of img budget) where
-    pub regions : Regions img w lay
-    regions = rw is layout_regions
+  pub regions : {lay : Layout} → lay ≡ layout_of img budget → Regions img w lay
+  regions is = rw is layout_regions
 
-    slots_low : count Slots img ≤ lay.lo
-    unfolding layout_of
-    slots_low = omega (arith, ap (λ (y : Layout). y.lo) is)
+  pub types_sound : TypesSound img
+  types_sound t h = (type_rules img t (types_rows img image.types t h)).0
 
-    pub types_asked : TypesAsked img w lay
-    types_asked = record { regions = regions; sound = λ t h. (type_rules img t (types_rows img image.types t h)).0 }
+  pub slots_typed : SlotsTyped img
+  slots_typed = slot_type img (length asked.bytes) image.references
 
-    module _ {w₁ w₂ : List ℕ} (a : LaysTypes img w w₁ lay) (b : LaysLists img w₁ w₂ lay) where
-      pub places_asked : Regions img w₂ lay
-      places_asked = regions_later (b.kept.len ∙ a.kept.len) regions
+  pub bodies_known : BodiesApart img
+  bodies_known =
+      record {
+        fits = λ f l. body_fits asked.passed l;
+        apart = λ f g l h. ⊎_elim (λ q. inl (omega (arith, body_ends asked.passed {f = f} (omega arith)))) (λ q. inr (omega (arith, body_ends asked.passed {f = g} h))) (bodies_apart img image.bodies f g l h);
+      }
 
-      module _ {w₃ : List ℕ} (c : LaysPlaces img w₂ w₃ lay) where
-        pub own_asked : OwnAsked w₃ lay.own
-        own_asked = let r = regions in record { room = omega (arith, c.kept.len, b.kept.len, a.kept.len); small = omega (arith, c.kept.len, b.kept.len, a.kept.len) }
+-- a part after another, both by the image and the layout that were there first
+pub then_part : {P Q : (img w w' : List ℕ) (lay : Layout) → Type 0} {l₀ l l' : Laying} → LaysPart P l₀ l → LaysPart Q l l' → LaysPart (λ img w w' lay. Q img l.words.now w' lay) l₀ l'
+then_part a b = record { image = b.image ∙ a.image; lay = b.lay ∙ a.lay; same = b.same ∙ a.same; part = rw (a.image, a.lay) at b.part }
 
-        module _ {w₄ : List ℕ} (d : LaysOwn w₃ w₄ lay.own) where
-          pub returns_asked : ReturnsAsked img w₄ lay
-          returns_asked =
-              let r = regions in
-              record {
-                regions = regions_later (d.kept.len ∙ c.kept.len) places_asked;
-                slots = λ k l h. d.kept.below _ (omega arith) ∙ c.each k l h;
-                bodies = λ f l. body_fits asked.passed l;
-                apart = λ f g l h. ⊎_elim (λ q. inl (omega (arith, body_ends asked.passed {f = f} (omega arith)))) (λ q. inr (omega (arith, body_ends asked.passed {f = g} h))) (bodies_apart img image.bodies f g l h);
-              }
+module _ {budget : ℕ} {l₀ l₁ l₂ l₃ l₄ l₅ l₆ : Laying} (asked : LayAsked l₀.image.now l₀.words.now budget) (is : l₀.lay ≡ layout_of l₀.image.now budget)
+    (laid_types : LaysPart LaysTypes l₀ l₁) (laid_lists : LaysPart LaysLists l₁ l₂) (laid_places : LaysPart LaysPlaces l₂ l₃)
+    (laid_own : LaysPart LaysOwn l₃ l₄) (laid_returns : LaysPart LaysReturns l₄ l₅) (laid_entries : LaysPart LaysEntries l₅ l₆) where
+  abbrev img : List ℕ
+  img = l₀.image.now
 
-          module _ {w₅ : List ℕ} (e : LaysReturns img w₄ w₅ lay) where
-            pub entries_asked : EntriesAsked img w₅ lay
-            entries_asked = record { regions = regions_later e.kept.len returns_asked.regions; types = slot_type img (length asked.bytes) image.references }
+  abbrev lay : Layout
+  lay = l₀.lay
 
-            module _ {w₆ : List ℕ} (f : LaysEntries img w₅ w₆ lay) where
-              -- the words of each part stay as it laid them
-              from_entries : (j : ℕ) → j < lay.own → at w₆ j ≡ at w₅ j
-              from_entries j l = let r = regions in f.kept.below j (omega arith)
+  abbrev r : Regions img l₀.words.now lay
+  r = l₀.regions
 
-              from_own : (j : ℕ) → lay.own ≤ j → j < lay.top → at w₆ j ≡ at w₄ j
-              from_own j o l = let r = regions in f.kept.below j (omega arith) ∙ e.kept.above j (omega arith)
+  slots_low : count Slots img ≤ lay.lo
+  unfolding layout_of
+  slots_low = omega (arith, ap (λ (y : Layout). y.lo) is)
 
-              from_places : (j : ℕ) → j < lay.returns → at w₆ j ≡ at w₃ j
-              from_places j l = let r = regions in from_entries j (omega arith) ∙ e.kept.below j l ∙ d.kept.below j (omega arith)
+  laid₂ : LaysPart (λ img w w' lay. LaysLists img l₁.words.now w' lay) l₀ l₂
+  laid₂ = then_part laid_types laid_lists
 
-              from_lists : (j : ℕ) → j < lay.places → at w₆ j ≡ at w₂ j
-              from_lists j l = let r = regions in from_places j (omega arith) ∙ c.kept.below j l
+  laid₃ : LaysPart (λ img w w' lay. LaysPlaces img l₂.words.now w' lay) l₀ l₃
+  laid₃ = then_part laid₂ laid_places
 
-              from_types : (j : ℕ) → j < lay.lists → at w₆ j ≡ at w₁ j
-              from_types j l = let r = regions in from_lists j (omega arith) ∙ b.kept.below j l
+  laid₄ : LaysPart (λ img w w' lay. LaysOwn img l₃.words.now w' lay) l₀ l₄
+  laid₄ = then_part laid₃ laid_own
 
-              own_laid : OwnLaid w₆ lay.lo lay.top lay.own
-              own_laid =
-                  let r = regions in
-                  record {
-                    prim_node = rep_leaf {n = lay.own} (omega arith) (omega arith) (leaf_prim (from_own _ (omega arith) (omega arith) ∙ d.prim_word));
-                    method_node = rep_leaf {n = lay.own + 3} (omega arith) (omega arith) (leaf_method (from_own _ (omega arith) (omega arith) ∙ d.method_word));
-                    object_node = λ s l. rep_leaf {n = lay.own + 6 + 3 * s} (omega arith) (omega arith) (leaf_object (from_own _ (omega arith) (omega arith) ∙ d.object_word s l) (from_own _ (omega arith) (omega arith) ∙ d.object_shape s l));
-                  }
+  laid₅ : LaysPart (λ img w w' lay. LaysReturns img l₄.words.now w' lay) l₀ l₅
+  laid₅ = then_part laid₄ laid_returns
 
-              pub all_laid : LaysOut img w w₆ budget lay
-              all_laid =
-                  let r = regions in
-                  record {
-                    prepared = record {
-                      is = is;
-                      long = f.kept.len ∙ e.kept.len ∙ d.kept.len ∙ c.kept.len ∙ b.kept.len ∙ a.kept.len ∙ asked.long;
-                      begun = omega arith;
-                      own = own_laid;
-                      types = types_stand is_laid (types_rows img image.types)
-                          (λ n h. row_same (λ j o l. from_types j (omega arith)) (a.each n h))
-                          (λ k l h. from_lists _ (omega arith) ∙ b.each k l h)
-                          slots_low r.nodes (omega arith);
-                      slot = λ k l h. from_places _ (omega arith) ∙ c.each k l h;
-                      returns = λ g h. returns_same (λ j l. from_entries j (omega arith)) (e.each g h);
-                    };
-                    entries = λ k l. f.each k (omega arith);
-                    bindings = λ k l. from_types k (omega arith) ∙ a.kept.below k l;
-                  }
+  laid₆ : LaysPart (λ img w w' lay. LaysEntries img l₅.words.now w' lay) l₀ l₆
+  laid₆ = then_part laid₅ laid_entries
+
+  abbrev a : LaysTypes img l₀.words.now l₁.words.now lay
+  a = laid_types.part
+
+  abbrev b : LaysLists img l₁.words.now l₂.words.now lay
+  b = laid₂.part
+
+  abbrev c : LaysPlaces img l₂.words.now l₃.words.now lay
+  c = laid₃.part
+
+  abbrev d : LaysOwn img l₃.words.now l₄.words.now lay
+  d = laid₄.part
+
+  abbrev e : LaysReturns img l₄.words.now l₅.words.now lay
+  e = laid₅.part
+
+  abbrev f : LaysEntries img l₅.words.now l₆.words.now lay
+  f = laid₆.part
+
+  -- the words of each part stay as it laid them
+  from_entries : (j : ℕ) → j < lay.own → at l₆.words.now j ≡ at l₅.words.now j
+  from_entries j l = f.kept.below j (omega (arith, r))
+
+  from_own : (j : ℕ) → lay.own ≤ j → j < lay.top → at l₆.words.now j ≡ at l₄.words.now j
+  from_own j o l = f.kept.below j (omega (arith, r)) ∙ e.kept.above j (omega (arith, r))
+
+  from_places : (j : ℕ) → j < lay.returns → at l₆.words.now j ≡ at l₃.words.now j
+  from_places j l = from_entries j (omega (arith, r)) ∙ e.kept.below j l ∙ d.kept.below j (omega (arith, r))
+
+  from_lists : (j : ℕ) → j < lay.places → at l₆.words.now j ≡ at l₂.words.now j
+  from_lists j l = from_places j (omega (arith, r)) ∙ c.kept.below j l
+
+  from_types : (j : ℕ) → j < lay.lists → at l₆.words.now j ≡ at l₁.words.now j
+  from_types j l = from_lists j (omega (arith, r)) ∙ b.kept.below j l
+
+  own_laid : OwnLaid l₆.words.now lay.lo lay.top lay.own
+  own_laid =
+      let q = r in
+      record {
+        prim_node = rep_leaf {n = lay.own} (omega arith) (omega arith) (leaf_prim (from_own _ (omega arith) (omega arith) ∙ d.prim_word));
+        method_node = rep_leaf {n = lay.own + 3} (omega arith) (omega arith) (leaf_method (from_own _ (omega arith) (omega arith) ∙ d.method_word));
+        object_node = λ s l. rep_leaf {n = lay.own + 6 + 3 * s} (omega arith) (omega arith) (leaf_object (from_own _ (omega arith) (omega arith) ∙ d.object_word s l) (from_own _ (omega arith) (omega arith) ∙ d.object_shape s l));
+      }
+
+  pub all_laid : LaysOut img l₀.words.now l₆.words.now budget lay
+  all_laid =
+      let q = r in
+      record {
+        prepared = record {
+          is = is;
+          long = f.kept.len ∙ e.kept.len ∙ d.kept.len ∙ c.kept.len ∙ b.kept.len ∙ a.kept.len ∙ asked.long;
+          begun = omega arith;
+          own = own_laid;
+          types = types_stand q.laid (types_rows img (image asked).types)
+              (λ n h. row_same (λ j o l. from_types j (omega arith)) (a.each n h))
+              (λ k l h. from_lists _ (omega arith) ∙ b.each k l h)
+              slots_low q.nodes (omega arith);
+          slot = λ k l h. from_places _ (omega arith) ∙ c.each k l h;
+          returns = λ g h. returns_same (λ j l. from_entries j (omega arith)) (e.each g h);
+        };
+        entries = λ k l. f.each k (omega arith);
+        bindings = λ k l. from_types k (omega arith) ∙ a.kept.below k l;
+      }

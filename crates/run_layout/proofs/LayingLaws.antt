@@ -1,13 +1,13 @@
 -- Words laid out in the work words: what each store adds, and what is kept. Assumes nothing.
 use Prim.Native.Nat.{ℕ, ◌+◌, ◌*◌, ◌≤◌, ◌<◌}
-use mathlib.Core.Path.{◌≡◌, refl, sym, ap, subst, ◌∙◌}
+use mathlib.Core.Path.{◌≡◌, sym, ap, subst, ◌∙◌}
 use mathlib.Core.Bool.{true, false}
 use mathlib.Core.Logic.{◌⊎◌, ⊎_elim}
 use mathlib.Core.List.{List}
 use native.Mathlib.Omega.{arith}
 use native.Mathlib.Decide.{ℕ_discrete}
 use lib.ListN.{length, set, length-set}
-use borrow.Author.Count.{below_none, below_more}
+use borrow.Author.Count.{below_more}
 use borrow.Author.Tests.{leb-true}
 use Rattle.image.specs.declared.Table.TheVariants.{Types, Lists}
 use Rattle.image.specs.Image.{count, cell, type_kinds, node, node_at}
@@ -16,12 +16,9 @@ use Rattle.image.proofs.TypeRows.{function_below, phi_below}
 use Rattle.unifier_nodes.specs.Work.{at}
 use Rattle.unifier_nodes.specs.Walks.{Wrote, type_node, TypePlaced}
 use Rattle.unifier_nodes.proofs.Words.{at_same, at_other}
-use Rattle.run_layout.specs.Laying.{Regions, Within, LaysWords, Lays, RowLaid, TypeAsked, LaysType, LaysOwn}
+use Rattle.run_layout.specs.Regions.{Regions}
+use Rattle.run_layout.specs.Laying.{Within, LaysWords, Lays, RowLaid, LaysType, LaysOwn}
 use Rattle.run_layout.specs.declared.Layout.{Layout}
-
--- nothing changed
-pub within_refl : (w : List ℕ) (from to : ℕ) → Within w w from to
-within_refl w from to = record { len = refl; below = λ j l. refl; above = λ j l. refl }
 
 -- one change after another
 pub within_trans : {w v u : List ℕ} {from to p q : ℕ} → Within w v from to → Within v u p q → from ≤ p → q ≤ to → Within w u from to
@@ -44,11 +41,8 @@ within_set w p x = record { len = length-set w p x; below = λ j l. at_other w p
 pub within_wrote : {w v : List ℕ} {p k a b : ℕ} → Wrote w v p k a b → Within w v p (p + 3)
 within_wrote h = record { len = h.len; below = h.below; above = h.above }
 
--- words of a sort: none; one stored; one that is of its sort already
+-- words of a sort: one more
 module _ {Sort : ℕ → ℕ → Type 0} where
-  pub words_none : {w : List ℕ} {from : ℕ} → LaysWords Sort w w from 0
-  words_none {w} {from} = record { kept = within_refl w from (from + 0); each = below_none _ }
-
   module _ {w v : List ℕ} {from i : ℕ} (h : LaysWords Sort w v from i) where
     pub words_store : (x : ℕ) → from + i < length v → Sort i x → LaysWords Sort w (set v (from + i) x) from (i + 1)
     words_store x l s =
@@ -59,18 +53,8 @@ module _ {Sort : ℕ → ℕ → Type 0} where
               (rw (at_same v (from + i) x l) s);
         }
 
-    pub words_skip : Sort i (at v (from + i)) → LaysWords Sort w v from (i + 1)
-    words_skip s = record { kept = within_more from (from + (i + 1)) h.kept (omega arith) (omega arith); each = below_more _ i h.each s }
-
-    -- all of them
-    pub words_all : {n : ℕ} → i ≡ n → LaysWords Sort w v from n
-    words_all e = subst (LaysWords Sort w v from) e h
-
--- things: none; one more, that leaves the others
+-- things: one more, that leaves the others
 module _ {Has : List ℕ → ℕ → Type 0} where
-  pub lays_none : {w : List ℕ} {from to : ℕ} → Lays Has w w from to 0
-  lays_none {w} {from} {to} = record { kept = within_refl w from to; each = below_none _ }
-
   pub lays_more : {w v u : List ℕ} {from to i p q : ℕ} → Lays Has w v from to i → Within v u p q → from ≤ p → q ≤ to
       → ((k : ℕ) → k < i → Has v k → Has u k) → Has u i → Lays Has w u from to (i + 1)
   lays_more {i = i} h g a b same new = record { kept = within_trans h.kept g a b; each = below_more _ i (λ k l. same k l (h.each k l)) new }
@@ -91,8 +75,9 @@ object_more own s h g l =
     (g.word0, g.word1)
 
 -- all own nodes
-pub lays_own : {w v u x : List ℕ} {own : ℕ} → Wrote w v own 1 0 0 → Wrote v u (own + 3) 3 0 0 → Lays (ObjectWords own) u x (own + 6) (own + 30) 8 → LaysOwn w x own
-lays_own {own = own} f g h =
+pub lays_own : {img w v u x : List ℕ} {lay : Layout} → Wrote w v lay.own 1 0 0 → Wrote v u (lay.own + 3) 3 0 0 → Lays (ObjectWords lay.own) u x (lay.own + 6) (lay.own + 30) 8 → LaysOwn img w x lay
+lays_own {lay = lay} f g h =
+    let own = lay.own in
     record {
       kept = within_trans (within_trans (within_more own (own + 30) (within_wrote f) (omega arith) (omega arith)) (within_wrote g) (omega arith) (omega arith)) h.kept (omega arith) (omega arith);
       prim_word = h.kept.below own (omega arith) ∙ g.below own (omega arith) ∙ f.word0;
@@ -113,28 +98,28 @@ row_same s r =
     }
 
 -- a row written as a node: a Phi, and any other
-module _ {img w v : List ℕ} {lo lists t kind a b : ℕ} (k : kind ≡ cell Types img t 0) (p : a ≡ cell Types img t 1) (q : b ≡ cell Types img t 2) where
-  pub row_phi : kind ≡ 7 → Wrote w v (lo + 3 * t) 7 (lists + a) b → LaysType img w v lo lists t
+module _ {img w v : List ℕ} {lay : Layout} {t kind a b : ℕ} (k : kind ≡ cell Types img t 0) (p : a ≡ cell Types img t 1) (q : b ≡ cell Types img t 2) where
+  pub row_phi : kind ≡ 7 → Wrote w v (lay.lo + 3 * t) kind (lay.lists + a) b → LaysType t img w v lay
   row_phi e h =
       record {
         kept = within_wrote h;
         row = record {
-          kind = h.word0 ∙ sym e ∙ k;
+          kind = h.word0 ∙ k;
           shape = λ z. absurd (z (sym k ∙ e));
           result = ⊎_elim (λ z. absurd (omega arith)) (λ z. absurd (omega arith));
-          operands = λ z. h.word1 ∙ ap (λ (x : ℕ). lists + x) p;
+          operands = λ z. h.word1 ∙ ap (λ (x : ℕ). lay.lists + x) p;
           many = λ z. h.word2 ∙ q;
         };
       }
 
-  pub row_other : {m : ℕ} → (kind ≡ 7 → ⊥) → ((cell Types img t 0 ≡ 5) ⊎ (cell Types img t 0 ≡ 6) → m ≡ type_node img lo b) → Wrote w v (lo + 3 * t) kind a m → LaysType img w v lo lists t
+  pub row_other : {m : ℕ} → (kind ≡ 7 → ⊥) → ((cell Types img t 0 ≡ 5) ⊎ (cell Types img t 0 ≡ 6) → m ≡ type_node img lay.lo b) → Wrote w v (lay.lo + 3 * t) kind a m → LaysType t img w v lay
   row_other e f h =
       record {
         kept = within_wrote h;
         row = record {
           kind = h.word0 ∙ k;
           shape = λ z. h.word1 ∙ p;
-          result = λ z. h.word2 ∙ f z ∙ ap (type_node img lo) q;
+          result = λ z. h.word2 ∙ f z ∙ ap (type_node img lay.lo) q;
           operands = λ z. absurd (e (k ∙ z));
           many = λ z. absurd (e (k ∙ z));
         };
@@ -157,17 +142,6 @@ module _ (img : List ℕ) (t : ℕ) {kind a b : ℕ} (s : node_sound img t (node
   pub operands_inside : kind ≡ 7 → a + b ≤ count Lists img
   unfolding node type_kinds inside
   operands_inside e = leb-true _ _ (phi_below img t a b (is_node e)).0
-
--- the return type of a row has a node number that fits
-pub result_placed : {img w : List ℕ} {lo lists t kind a b : ℕ} → TypeAsked img w lo lists t → kind ≡ cell Types img t 0 → a ≡ cell Types img t 1 → b ≡ cell Types img t 2 → 5 ≤ kind → kind < 7 → TypePlaced img lo b
-result_placed {img} {t = t} h k p q l u =
-    let m = result_below img t h.sound k p q l u in
-    record { laid = h.laid; inside = omega arith; fits = λ z. omega arith }
-
--- the parts of the work words in words of the same length
-pub regions_later : {img w w' : List ℕ} {lay : Layout} → length w' ≡ length w → Regions img w lay → Regions img w' lay
-regions_later e r =
-    record { laid = r.laid; slots = r.slots; nodes = r.nodes; lists = r.lists; places = r.places; returns = r.returns; own = r.own; top = r.top; entries = omega arith; small = omega arith }
 
 -- a type of the table has a node number that fits
 pub placed_in : {img w : List ℕ} {lay : Layout} {n : ℕ} → Regions img w lay → n < count Types img → TypePlaced img lay.lo n

@@ -3,7 +3,6 @@ use Prim.Native.Nat.{ℕ, suc, ◌+◌, ◌-◌, ◌≤◌, ◌<◌}
 use mathlib.Core.Path.{◌≡◌, sym, ap, ap₂, ◌∙◌}
 use mathlib.Core.List.{List, ◌∷◌}
 use native.Mathlib.Omega.{arith}
-use native.Mathlib.Nat.{sub-zero}
 use lib.ListN.{length, get_or, set}
 use borrow.Author.Tests.{eq-eqb, ne_eqb}
 use Rattle.image.specs.declared.Table.TheVariants.{Identifiers}
@@ -11,40 +10,14 @@ use Rattle.image.specs.Image.{word, cell}
 use Rattle.unifier_nodes.specs.Work.{at}
 use Rattle.unifier_nodes.proofs.Words.{at_same, at_other}
 use Rattle.run_definition.specs.Generate.{returned}
-use Rattle.run_definition.specs.Position.{after_phis, after_instructions, count_place, terminal_place, returned_at, block_at, after_block, blocks_at, after_blocks}
+use Rattle.run_definition.specs.Position.{terminal_place, returned_at, block_at, after_block, blocks_at, after_blocks}
 use Rattle.run_definition.specs.Fitting.{BlocksFit, no_block, block_then}
-use Rattle.run_layout.specs.Laying.{LaysWords, SomeInstructions, SomeBlocks, ReturnedAsked, LaysReturned}
-use Rattle.run_layout.specs.declared.Layout.{Layout}
-use Rattle.run_definition.proofs.PositionLaws.{count_place_least, terminal_place_least, after_block_least}
-use Rattle.run_layout.proofs.LayingLaws.{within_more, within_set, within_trans, words_none, words_store}
-use Rattle.run_layout.proofs.BodyWalks.{Walk, walk_start, walk_here, walk_turn, SomeBlock, block_parts}
-
--- where a block's parts stand
-module _ {img : List ℕ} {p : ℕ} (h : SomeBlock img p) where
-  pub block_long : p + 4 ≤ length img
-  unfolding after_block
-  block_long = omega (arith, after_block_least img p, h.fits.inside)
-
-  module _ {a : ℕ} (e : a ≡ after_phis img (p + 1) (word img p)) where
-    is_count : a ≡ count_place img p
-    unfolding count_place
-    is_count = e
-
-    pub count_inside : a + 3 ≤ length img
-    unfolding after_block
-    count_inside = omega (arith, is_count, terminal_place_least img p, h.fits.inside)
-
-    pub block_instructions : SomeInstructions img (a + 1) (word img a)
-    block_instructions = record { f = h.f; fits = rw is_count h.fits.instructions }
-
-    module _ {b : ℕ} (q : b ≡ after_instructions img (a + 1) (word img a)) where
-      is_terminal : b ≡ terminal_place img p
-      unfolding terminal_place
-      is_terminal = rw (← is_count) q
-
-      terminal_inside : b + 2 ≤ length img
-      unfolding after_block
-      terminal_inside = omega (arith, is_terminal, h.fits.inside)
+use Rattle.run_layout.specs.Regions.{SomeBlock, SomeBlocks}
+use Rattle.run_layout.specs.Laying.{LaysPart, LaysWords, ReturnedAsked, LaysReturned}
+use Rattle.run_layout.specs.declared.Laying.{Laying}
+use Rattle.run_definition.proofs.PositionLaws.{count_place_least, terminal_place_least}
+use Rattle.run_layout.proofs.LayingLaws.{within_more, within_set, within_trans, words_store}
+use Rattle.run_layout.proofs.BodyWalks.{Walk, walk_here, walk_turn, block_parts, block_long, terminal_inside}
 
 -- blocks start in the image, or at its end
 pub blocks_start : {img : List ℕ} {p n : ℕ} → SomeBlocks img p n → p ≤ length img
@@ -80,117 +53,130 @@ pub record Returning (img w₀ w : List ℕ) (returns from n p m i : ℕ) : Type
   pub rest : (k : ℕ) → get_or (returned (blocks_at img p (n - i))) k 0 ≡ get_or (returned (blocks_at img from n)) (m + k) 0
   pub lays : LaysWords (ReturnedWord img from n) w₀ w (returns + 1) m
 
-pub returning_start : {img w : List ℕ} {returns from n : ℕ} → SomeBlocks img from n → Returning img w w returns from n from 0 0
-returning_start {img} {from = from} {n = n} h =
-    record {
-      walk = walk_start _ _ _ _ h;
-      far = omega arith;
-      many = rw sub-zero (omega arith);
-      rest = λ k. rw sub-zero (ap (entry (returned (blocks_at img from n))) (omega arith));
-      lays = words_none;
-    }
-
--- the block in hand
-pub this_block : {img w₀ w : List ℕ} {returns from n p m i : ℕ} → Returning img w₀ w returns from n p m i → i < n → SomeBlock img p
-this_block h l = walk_here block_parts h.walk l
+-- what the loop keeps
+abbrev pub LaysSome : (returns from n p m i : ℕ) (l₀ l : Laying) → Type 0
+LaysSome returns from n p m i = LaysPart (λ img w w' lay. Returning img w w' returns from n p m i)
 
 -- what is known of the numbers at a block whose terminal stands at b
 pub record Bounds (img w : List ℕ) (places returns m b : ℕ) : Type 0 where
   pub terminal : b + 2 ≤ length img
+  pub short : length img ≤ 65536
   pub low : places + length img ≤ returns
   pub room : returns + m + 4 < length w
   pub few : m < 65536
 
--- at a block whose instruction count stands at a, and its terminal at b
-module _ {img w₀ w : List ℕ} {lay : Layout} {returns from n p m i a b : ℕ} (asked : ReturnedAsked img w₀ lay returns from n) (h : Returning img w₀ w returns from n p m i) (l : i < n) (d : a ≡ after_phis img (p + 1) (word img p)) (c : b ≡ after_instructions img (a + 1) (word img a)) where
-  block : SomeBlock img p
-  block = this_block h l
+module _ {l₀ l : Laying} {returns from n p m i : ℕ} (asked : ReturnedAsked l₀ returns from n) (g : LaysSome returns from n p m i l₀ l) where
+  abbrev img : List ℕ
+  img = l₀.image.now
 
-  e : b ≡ terminal_place img p
-  e = is_terminal block d c
+  h : Returning img l₀.words.now l.words.now returns from n p m i
+  h = g.part
 
-  -- there is room for one slot more
-  pub returning_bounds : Bounds img w lay.places returns m b
-  returning_bounds =
-      record {
-        terminal = terminal_inside block d c;
-        low = asked.apart;
-        room = omega (arith, asked.room, h.far, block_long block, h.lays.kept.len);
-        few = omega (arith, asked.laid.short, h.far, block_long block);
-      }
+  -- the block in hand
+  module _ (lt : i < n) where
+    block : SomeBlock img p
+    block = walk_here block_parts h.walk lt
 
-  -- the slot of the identifier that is returned
-  returning_slot : word img b ≡ 1 → at w (lay.places + b + 1) ≡ cell Identifiers img (word img (b + 1)) 0
-  returning_slot z =
-      let q : lay.places + b + 1 ≡ lay.places + (b + 1) = omega arith in
-      let t = returning_bounds in
-      h.lays.kept.below _ (omega arith)
-      ∙ ap (at w₀) q
-      ∙ asked.slots (b + 1) (omega arith) (rw e (block.fits.returned (sym (ap (word img) e) ∙ z)))
+    module _ {b : ℕ} (q : b ≡ terminal_place l.image.now p) where
+      e : b ≡ terminal_place img p
+      e = rw g.image at q
 
-  next_block : b + 2 ≡ after_block img p
-  unfolding after_block
-  next_block = omega (arith, e)
+      -- there is room for one slot more
+      bounds : Bounds img l.words.now l₀.lay.places returns m b
+      bounds =
+          let r = l₀.regions in
+          record {
+            terminal = omega (arith, e, terminal_inside block);
+            short = r.laid.short;
+            low = asked.apart;
+            room = omega (arith, asked.room, h.far, block_long block, h.lays.kept.len);
+            few = omega (arith, r.laid.short, h.far, block_long block);
+          }
 
-  others : List ℕ
-  others = returned (blocks_at img (b + 2) (n - (i + 1)))
+      pub returning_bounds : Bounds l.image.now l.words.now l.lay.places returns m b
+      returning_bounds = rw (g.image, g.lay) bounds
 
-  more_left : n - i ≡ suc (n - (i + 1))
-  more_left = omega arith
+      -- the slot of the identifier that is returned
+      returning_slot : word img b ≡ 1 → at l.words.now (l₀.lay.places + b + 1) ≡ cell Identifiers img (word img (b + 1)) 0
+      returning_slot z =
+          let q : l₀.lay.places + b + 1 ≡ l₀.lay.places + (b + 1) = omega arith in
+          let t = bounds in
+          h.lays.kept.below _ (omega arith)
+          ∙ ap (at l₀.words.now) q
+          ∙ asked.slots (b + 1) (omega arith) (rw e (block.fits.returned (sym (ap (word img) e) ∙ z)))
 
-  abbrev left : List ℕ
-  left = returned (blocks_at img p (n - i))
+      next_block : b + 2 ≡ after_block img p
+      unfolding after_block
+      next_block = omega (arith, e)
 
-  left_none : (word img b ≡ 1 → ⊥) → left ≡ others
-  unfolding others
-  left_none z = ap (λ (k : ℕ). returned (blocks_at img p k)) more_left ∙ returned_none img p (n - (i + 1)) (λ y. z (ap (word img) e ∙ y)) ∙ ap (λ (k : ℕ). returned (blocks_at img k (n - (i + 1)))) (sym next_block)
+      others : List ℕ
+      others = returned (blocks_at img (b + 2) (n - (i + 1)))
 
-  left_one : word img b ≡ 1 → left ≡ word img (b + 1) ∷ others
-  unfolding others
-  left_one z =
-      ap (λ (k : ℕ). returned (blocks_at img p k)) more_left
-      ∙ returned_one img p (n - (i + 1)) (sym (ap (word img) e) ∙ z)
-      ∙ ap₂ ◌∷◌ (ap (λ (k : ℕ). word img (k + 1)) (sym e)) (ap (λ (k : ℕ). returned (blocks_at img k (n - (i + 1)))) (sym next_block))
+      more_left : n - i ≡ suc (n - (i + 1))
+      more_left = omega arith
 
-  -- a block that returns nothing
-  pub returning_skip : (word img b ≡ 1 → ⊥) → Returning img w₀ w returns from n (b + 2) m (i + 1)
-  unfolding others
-  returning_skip z =
-      let same = left_none z in
-      record {
-        walk = walk_turn block_parts h.walk l next_block;
-        far = omega (arith, h.far, e, count_place_least img p, terminal_place_least img p);
-        many = rw (← same) h.many;
-        rest = λ k. rw (← same) (h.rest k);
-        lays = h.lays;
-      }
+      abbrev left : List ℕ
+      left = returned (blocks_at img p (n - i))
 
-  -- a block that returns an identifier
-  pub returning_more : word img b ≡ 1 → Returning img w₀ (set w (returns + (m + 1)) (at w (lay.places + b + 1))) returns from n (b + 2) (m + 1) (i + 1)
-  unfolding others
-  returning_more z =
-      let same = left_one z in
-      let all : List ℕ = returned (blocks_at img from n) in
-      let here : word img (b + 1) ≡ entry all m = rw same at (h.rest 0) ∙ ap (entry all) (omega arith) in
-      let place : returns + (m + 1) ≡ returns + 1 + m = omega arith in
-      record {
-        walk = walk_turn block_parts h.walk l next_block;
-        far = omega (arith, h.far, e, count_place_least img p, terminal_place_least img p);
-        many = omega (arith, rw same at h.many);
-        rest = λ k. rw same at (h.rest (suc k)) ∙ ap (entry all) (omega arith);
-        lays = rw place (words_store h.lays (at w (lay.places + b + 1)) (omega (arith, returning_bounds.room)) (returning_slot z ∙ ap (λ (j : ℕ). cell Identifiers img j 0) here));
-      }
+      left_none : (word img b ≡ 1 → ⊥) → left ≡ others
+      unfolding others
+      left_none z = ap (λ (k : ℕ). returned (blocks_at img p k)) more_left ∙ returned_none img p (n - (i + 1)) (λ y. z (ap (word img) e ∙ y)) ∙ ap (λ (k : ℕ). returned (blocks_at img k (n - (i + 1)))) (sym next_block)
 
--- all blocks, and the count before
-module _ {img w₀ w : List ℕ} {lay : Layout} {returns from n p m i : ℕ} (asked : ReturnedAsked img w₀ lay returns from n) (h : Returning img w₀ w returns from n p m i) where
-  pub returning_inside : returns < length w
-  returning_inside = omega (arith, asked.room, h.far, blocks_start h.walk.fits, h.lays.kept.len)
+      left_one : word img b ≡ 1 → left ≡ word img (b + 1) ∷ others
+      unfolding others
+      left_one z =
+          ap (λ (k : ℕ). returned (blocks_at img p k)) more_left
+          ∙ returned_one img p (n - (i + 1)) (sym (ap (word img) e) ∙ z)
+          ∙ ap₂ ◌∷◌ (ap (λ (k : ℕ). word img (k + 1)) (sym e)) (ap (λ (k : ℕ). returned (blocks_at img k (n - (i + 1)))) (sym next_block))
 
-  pub returning_end : n ≤ i → LaysReturned img w₀ (set w returns m) returns from n
+      -- a block that returns nothing
+      pub returning_skip : (word l.image.now b ≡ 1 → ⊥) → LaysSome returns from n (b + 2) m (i + 1) l₀ l
+      unfolding others
+      returning_skip z =
+          let same = left_none (rw g.image at z) in
+          record {
+            image = g.image;
+            lay = g.lay;
+            same = g.same;
+            part = record {
+              walk = walk_turn block_parts h.walk lt next_block;
+              far = omega (arith, h.far, e, count_place_least img p, terminal_place_least img p);
+              many = rw (← same) h.many;
+              rest = λ k. rw (← same) (h.rest k);
+              lays = h.lays;
+            };
+          }
+
+      -- a block that returns an identifier
+      more : word img b ≡ 1 → Returning img l₀.words.now (set l.words.now (returns + (m + 1)) (at l.words.now (l₀.lay.places + b + 1))) returns from n (b + 2) (m + 1) (i + 1)
+      unfolding others
+      more z =
+          let same = left_one z in
+          let all : List ℕ = returned (blocks_at img from n) in
+          let here : word img (b + 1) ≡ entry all m = rw same at (h.rest 0) ∙ ap (entry all) (omega arith) in
+          let place : returns + (m + 1) ≡ returns + 1 + m = omega arith in
+          record {
+            walk = walk_turn block_parts h.walk lt next_block;
+            far = omega (arith, h.far, e, count_place_least img p, terminal_place_least img p);
+            many = omega (arith, rw same at h.many);
+            rest = λ k. rw same at (h.rest (suc k)) ∙ ap (entry all) (omega arith);
+            lays = rw place (words_store h.lays (at l.words.now (l₀.lay.places + b + 1)) (omega (arith, bounds.room)) (returning_slot z ∙ ap (λ (j : ℕ). cell Identifiers img j 0) here));
+          }
+
+      pub returning_more : {l' : Laying} → l'.image ≡ l.image → l'.lay ≡ l.lay → l'.words.ghost_name ≡ l.words.ghost_name
+          → l'.words.now ≡ set l.words.now (returns + (m + 1)) (at l.words.now (l.lay.places + b + 1)) → word l.image.now b ≡ 1 → LaysSome returns from n (b + 2) (m + 1) (i + 1) l₀ l'
+      returning_more a b c d z = record { image = a ∙ g.image; lay = b ∙ g.lay; same = c ∙ g.same; part = rw (d, g.lay) (more (rw g.image at z)) }
+
+  -- all blocks, and the count before
+  pub returning_inside : returns < length l.words.now
+  returning_inside = let r = l₀.regions in omega (arith, asked.room, h.far, blocks_start h.walk.fits, h.lays.kept.len)
+
+  pub returning_end : n ≤ i → LaysReturned returns from n img l₀.words.now (set l.words.now returns m) l₀.lay
   unfolding blocks_at returned
-  returning_end l =
+  returning_end lt =
       let q : n - i ≡ 0 = omega arith in
       let z = rw q at h.many in
+      let w = l.words.now in
       record {
         kept = within_trans (within_more returns (returns + 1 + length (returned (blocks_at img from n))) h.lays.kept (omega arith) (omega arith)) (within_set w returns m) (omega arith) (omega arith);
         many = at_same w returns m returning_inside ∙ omega arith;

@@ -1,34 +1,24 @@
 -- What is laid out in the work words part by part: what each part asks, and what it promises. Assumes nothing.
-use Rattle.std.specs.Prelude.{ℕ, ◌+◌, ◌*◌, ◌^◌, ◌≤◌, ◌<◌, ◌≡◌, true, ◌⊎◌, List, length, get_or}
+use Rattle.std.specs.Prelude.{ℕ, ◌+◌, ◌*◌, ◌≤◌, ◌<◌, ◌≡◌, true, ◌⊎◌, List, length, get_or}
 use Rattle.image.specs.declared.Table.TheVariants.{Identifiers, Slots, Types, Lists, Functions}
 use Rattle.image.specs.Image.{word, count, cell, node_at}
-use Rattle.image.specs.Laid.{Laid}
 use Rattle.image.specs.Check.{node_sound}
 use Rattle.unifier_nodes.specs.Work.{at}
 use Rattle.unifier_nodes.specs.Walks.{type_node}
 use Rattle.run_definition.specs.Generate.{returned}
 use Rattle.run_definition.specs.Position.{blocks_at, after_body}
-use Rattle.run_definition.specs.Fitting.{InstructionsFit, BlocksFit, BodyFits}
+use Rattle.run_definition.specs.Fitting.{BodyFits}
 use Rattle.run_layout.specs.Layout.{ReturnsLaid}
+use Rattle.run_layout.specs.Regions.{SomeBlocks}
 use Rattle.run_layout.specs.declared.Layout.{Layout}
+use Rattle.run_layout.specs.declared.Laying.{Laying}
 
--- what `layout_for` asks
-pub record ImageFits (img : List ℕ) (budget : ℕ) : Type 0 where
-  pub laid : Laid img
-  pub steps : budget ≤ 65536
-
--- the parts of the work words lie one after the other
-pub record Regions (img w : List ℕ) (lay : Layout) : Type 0 where
-  pub laid : Laid img
-  pub slots : lay.slots ≡ count Slots img
-  pub nodes : lay.lo + 3 * count Types img ≤ lay.lists
-  pub lists : lay.lists + count Lists img ≤ lay.places
-  pub places : lay.places + length img ≤ lay.returns
-  pub returns : lay.returns + length img ≤ lay.own
-  pub own : lay.own + 30 ≤ lay.top
-  pub top : lay.top ≤ lay.entries
-  pub entries : lay.entries + lay.slots ≤ length w
-  pub small : length w < 2 ^ 32
+-- the promise of a method: the image, the layout and the reference to the words stay, and this part is laid out in them
+pub record LaysPart (Part : (img w w' : List ℕ) (lay : Layout) → Type 0) (l l' : Laying) : Type 0 where
+  pub image : l'.image ≡ l.image
+  pub lay : l'.lay ≡ l.lay
+  pub same : l'.words.ghost_name ≡ l.words.ghost_name
+  pub part : Part l.image.now l.words.now l'.words.now l.lay
 
 -- no word but those from `from` on and below `to` is another
 pub record Within (w w' : List ℕ) (from to : ℕ) : Type 0 where
@@ -66,74 +56,27 @@ pub record RowLaid (img : List ℕ) (lo lists : ℕ) (w : List ℕ) (t : ℕ) : 
   pub operands : cell Types img t 0 ≡ 7 → at w (lo + 3 * t + 1) ≡ lists + cell Types img t 1
   pub many : cell Types img t 0 ≡ 7 → at w (lo + 3 * t + 2) ≡ cell Types img t 2
 
--- what `lay_type` asks, and what it promises
-pub record TypeAsked (img w : List ℕ) (lo lists t : ℕ) : Type 0 where
-  pub laid : Laid img
-  pub row : t < count Types img
-  pub sound : node_sound img t (node_at img t) ≡ true
-  pub nodes : lo + 3 * count Types img ≤ lists
-  pub room : lists + count Lists img ≤ length w
-  pub small : length w < 2 ^ 32
+-- the node of type t
+pub record LaysType (t : ℕ) (img w w' : List ℕ) (lay : Layout) : Type 0 where
+  pub kept : Within w w' (lay.lo + 3 * t) (lay.lo + 3 * t + 3)
+  pub row : RowLaid img lay.lo lay.lists w' t
 
-pub record LaysType (img w w' : List ℕ) (lo lists t : ℕ) : Type 0 where
-  pub kept : Within w w' (lo + 3 * t) (lo + 3 * t + 3)
-  pub row : RowLaid img lo lists w' t
-
--- what `lay_types` asks: each type keeps the rules
-pub record TypesAsked (img w : List ℕ) (lay : Layout) : Type 0 where
-  pub regions : Regions img w lay
-  pub sound : (t : ℕ) → t < count Types img → node_sound img t (node_at img t) ≡ true
-
--- what `lay_entries` asks: each slot has a type of the table
-pub record EntriesAsked (img w : List ℕ) (lay : Layout) : Type 0 where
-  pub regions : Regions img w lay
-  pub types : (k : ℕ) → k < count Slots img → cell Slots img k 0 < count Types img
-
--- what `lay_own` asks, and what it promises: the own nodes, word by word
-pub record OwnAsked (w : List ℕ) (own : ℕ) : Type 0 where
-  pub room : own + 30 ≤ length w
-  pub small : length w < 2 ^ 32
-
-pub record LaysOwn (w w' : List ℕ) (own : ℕ) : Type 0 where
-  pub kept : Within w w' own (own + 30)
-  pub prim_word : at w' own ≡ 1
-  pub method_word : at w' (own + 3) ≡ 3
-  pub object_word : (s : ℕ) → s < 8 → at w' (own + 6 + 3 * s) ≡ 4
-  pub object_shape : (s : ℕ) → s < 8 → at w' (own + 6 + 3 * s + 1) ≡ s
-
--- n instructions, n blocks of some function
-pub record SomeInstructions (img : List ℕ) (from n : ℕ) : Type 0 where
-  pub f : ℕ
-  pub fits : InstructionsFit img f from n
-
-pub record SomeBlocks (img : List ℕ) (from n : ℕ) : Type 0 where
-  pub f : ℕ
-  pub fits : BlocksFit img f from n
-
--- what `lay_returned` asks: blocks, the slots by position, and room for as many words as image words are left
-pub record ReturnedAsked (img w : List ℕ) (lay : Layout) (returns from n : ℕ) : Type 0 where
-  pub laid : Laid img
-  pub fits : SomeBlocks img from n
-  pub slots : (k : ℕ) → k < length img → PlaceWord img k (at w (lay.places + k))
-  pub apart : lay.places + length img ≤ returns
-  pub room : returns + length img < from + length w
+-- the own nodes, word by word
+pub record LaysOwn (img w w' : List ℕ) (lay : Layout) : Type 0 where
+  pub kept : Within w w' lay.own (lay.own + 30)
+  pub prim_word : at w' lay.own ≡ 1
+  pub method_word : at w' (lay.own + 3) ≡ 3
+  pub object_word : (s : ℕ) → s < 8 → at w' (lay.own + 6 + 3 * s) ≡ 4
+  pub object_shape : (s : ℕ) → s < 8 → at w' (lay.own + 6 + 3 * s + 1) ≡ s
 
 -- the slots that n blocks return, after their count
-pub record LaysReturned (img w w' : List ℕ) (returns from n : ℕ) : Type 0 where
+pub record LaysReturned (returns from n : ℕ) (img w w' : List ℕ) (lay : Layout) : Type 0 where
   pub kept : Within w w' returns (returns + 1 + length (returned (blocks_at img from n)))
   pub many : at w' returns ≡ length (returned (blocks_at img from n))
   pub each : (k : ℕ) → k < length (returned (blocks_at img from n))
       → at w' (returns + 1 + k) ≡ cell Identifiers img (get_or (returned (blocks_at img from n)) k 0) 0
 
--- what `lay_returns` asks: bodies that lie in the image and share no word
-pub record ReturnsAsked (img w : List ℕ) (lay : Layout) : Type 0 where
-  pub regions : Regions img w lay
-  pub slots : (k : ℕ) → k < length img → PlaceWord img k (at w (lay.places + k))
-  pub bodies : (f : ℕ) → f < count Functions img → BodyFits img f (cell Functions img f 0)
-  pub apart : (f g : ℕ) → f < g → g < count Functions img
-      → (after_body img (cell Functions img f 0) ≤ cell Functions img g 0) ⊎ (after_body img (cell Functions img g 0) ≤ cell Functions img f 0)
-
--- the promises of the parts
+-- the promises of the other parts
 abbrev pub LaysTypes : (img w w' : List ℕ) (lay : Layout) → Type 0
 LaysTypes img w w' lay = Lays (RowLaid img lay.lo lay.lists) w w' lay.lo (lay.lo + 3 * count Types img) (count Types img)
 
@@ -148,3 +91,28 @@ LaysReturns img w w' lay = Lays (λ v f. ReturnsLaid img v lay.returns f) w w' l
 
 abbrev pub LaysEntries : (img w w' : List ℕ) (lay : Layout) → Type 0
 LaysEntries img w w' lay = LaysWords (EntryWord img lay.lo) w w' lay.entries lay.slots
+
+-- each type keeps the rules
+abbrev pub TypesSound : List ℕ → Type 0
+TypesSound img = (t : ℕ) → t < count Types img → node_sound img t (node_at img t) ≡ true
+
+-- each slot has a type of the table
+abbrev pub SlotsTyped : List ℕ → Type 0
+SlotsTyped img = (k : ℕ) → k < count Slots img → cell Slots img k 0 < count Types img
+
+-- the slots of identifiers, by position
+abbrev pub PlacesLaid : Laying → Type 0
+PlacesLaid l = (k : ℕ) → k < length l.image.now → PlaceWord l.image.now k (at l.words.now (l.lay.places + k))
+
+-- what `lay_returned` asks: blocks, the slots by position, and room for as many words as image words are left
+pub record ReturnedAsked (l : Laying) (returns from n : ℕ) : Type 0 where
+  pub fits : SomeBlocks l.image.now from n
+  pub slots : PlacesLaid l
+  pub apart : l.lay.places + length l.image.now ≤ returns
+  pub room : returns + length l.image.now ≤ from + l.lay.own
+
+-- what `lay_returns` asks of the bodies: that they lie in the image and share no word
+pub record BodiesApart (img : List ℕ) : Type 0 where
+  pub fits : (f : ℕ) → f < count Functions img → BodyFits img f (cell Functions img f 0)
+  pub apart : (f g : ℕ) → f < g → g < count Functions img
+      → (after_body img (cell Functions img f 0) ≤ cell Functions img g 0) ⊎ (after_body img (cell Functions img g 0) ≤ cell Functions img f 0)

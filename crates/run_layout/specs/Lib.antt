@@ -1,2 +1,3 @@
+pub mod Regions
 pub mod Layout
 pub mod Laying

@@ -1,36 +1,17 @@
 use native.Mathlib.Omega.{arith}
-use mathlib.Core.Path.{refl}
 use Rattle.run_definition.specs.Position.{after_instruction}
-use Rattle.run_layout.proofs.BodyWalks.{walk_start, walk_turn, walk_end, instruction_parts, instruction_inside}
+use Rattle.run_layout.proofs.BodyWalks.{walk_turn, walk_end, instruction_parts, instruction_inside}
 use Rattle.run_layout.proofs.after_instructions.Goals as goal
-
-pub loop-init : goal.loop-init
-loop-init c = walk_start _ _ _ _ c.requires
 
 pub overflow_add-at : goal.overflow_add-at
 overflow_add-at c = omega (arith, instruction_inside c.loop.invariant c.loop-test.true)
 
-pub overflow_add-at-in-loop : goal.overflow_add-at-in-loop
-overflow_add-at-in-loop c = omega (arith, instruction_inside c.loop.invariant c.loop-test.true)
-
-pub offset_bounds-img-at : goal.offset_bounds-img-at
-offset_bounds-img-at c = omega (arith, instruction_inside c.loop.invariant c.loop-test.true)
-
-pub bounds-img-at : goal.bounds-img-at
-bounds-img-at c = omega (arith, instruction_inside c.loop.invariant c.loop-test.true)
-
-pub overflow_cast-at : goal.overflow_cast-at
-overflow_cast-at c = omega (arith, instruction_inside c.loop.invariant c.loop-test.true)
-
-pub overflow_mul-at : goal.overflow_mul-at
-overflow_mul-at c = omega (arith, instruction_inside c.loop.invariant c.loop-test.true)
-
-pub overflow_add-at-in-loop-2 : goal.overflow_add-at-in-loop-2
-overflow_add-at-in-loop-2 c = omega (arith, instruction_inside c.loop.invariant c.loop-test.true)
+pub after_rows-at-requires : goal.after_rows-at-requires
+after_rows-at-requires c = omega (arith, instruction_inside c.loop.invariant c.loop-test.true)
 
 pub loop-preserved : goal.loop-preserved
 unfolding after_instruction
-loop-preserved c = walk_turn instruction_parts c.loop.invariant c.loop-test.true refl
+loop-preserved c = walk_turn instruction_parts c.loop.invariant c.loop-test.true (omega (arith, c.after_rows-at.ensures))
 
 pub returns : goal.returns
 returns c = walk_end instruction_parts c.loop.invariant c.loop-test.false

@@ -1,4 +1,3 @@
-use Prim.Native.Nat.{◌-◌}
 use Rattle.run_definition.specs.Position.{after_phis}
 use Rattle.run_definition.specs.Fitting.{PhisFit}
 use Rattle.run_layout.proofs.BodyWalks.{Walk}
@@ -6,6 +5,3 @@ use Rattle.run_layout.proofs.after_phis.Given as goal
 
 abbrev pub invariant-loop : goal.invariant-loop
 invariant-loop l = Walk (PhisFit l.img) (after_phis l.img) l.from l.n l.at l.counter
-
-abbrev pub decreases-loop : goal.decreases-loop
-decreases-loop l = l.n - l.counter

@@ -1,0 +1,4 @@
+pub mod AllFrom
+pub mod KindRows
+pub mod ReadingLaws
+pub mod Naming
