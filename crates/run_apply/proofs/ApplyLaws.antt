@@ -1,13 +1,12 @@
 -- The parts of `apply_function` one after the other, and the visit of one slot. Assumes nothing.
 use Rattle.std.proofs.Common.{◌≡◌, refl, ap, ◌∙◌, ℕ, ◌+◌, ◌*◌, ◌≤◌, ◌<◌, arith, List, [], ◌++◌, length, get_or, set, Result, Ok, Err}
-use Rattle.std.specs.Prelude.{IsErrAnd}
 use native.Mathlib.Decide.{ℕ_discrete}
 use lib.ListN.{length-set}
 use lib.Seq.{get_or-set_same, get_or-set_other}
 use Rattle.image.specs.declared.Table.TheVariants.{Identifiers, Slots, Types, Lists, Functions}
 use Rattle.image.specs.declared.refusal.Refusal.{Refusal}
 use Rattle.image.specs.Ty.{Ty, poly}
-use Rattle.image.specs.Image.{word, count, cell}
+use Rattle.image.specs.Image.{count, cell}
 use Rattle.image.specs.Laid.{Laid}
 use Rattle.image.proofs.Checked.{laid, identifier_slot}
 use Rattle.unifier_definition.specs.Log.{Log}
@@ -21,10 +20,10 @@ use Rattle.unifier_nodes.proofs.Promised.{comes_as, refuses_then}
 use Rattle.unifier_nodes.proofs.Frames.{rep_same, good_same}
 use Rattle.unifier_nodes.proofs.Words.{at_same, at_other}
 use Rattle.run_definition.specs.Visits.{Visit, visit, resolve_identifiers}
-use Rattle.run_definition.specs.Fitting.{Passed, PlaceFits}
+use Rattle.run_definition.specs.Fitting.{Passed}
 use Rattle.run_layout.specs.Layout.{layout_of}
 use Rattle.run_tables.specs.Standing.{SlotsStand}
-use Rattle.run_apply.specs.Applying.{SlotsIn, Applying, PassKeeps, Applies, AppliesTo, Passing, place_visits}
+use Rattle.run_apply.specs.Applying.{SlotsIn, Applying, PassKeeps, Applies, AppliesTo, Passing, identifier_visits}
 use Rattle.run_layout.specs.declared.Layout.{Layout}
 use Rattle.run_definition.proofs.ResolvedVisits.{resolve_identifiers_append}
 use Rattle.run_definition.proofs.PositionLaws.{slot_is}
@@ -133,11 +132,6 @@ module _ {A : Type 0} {img : List ℕ} {lay : Layout} {u v : Unifier} where
         stand = stand;
       }
 
--- what `?` hands on is the refusal itself
-pub handed_on : {A : Type 0} (r : Result A Refusal) {why : Refusal} → IsErrAnd r (λ y. y ≡ why) → r ≡ Err why
-handed_on (Ok x) h = absurd h
-handed_on (Err y) h = ap Err h
-
 -- after a refusal nothing is read on
 pub nowhere : {next : ℕ} {vs : List ℕ → List Visit} {img : List ℕ} {lay : Layout} {u v : Unifier} {why : Refusal} → Applies {A = ℕ} vs img lay u v (Err why) → AppliesTo next vs img lay u v (Err why)
 nowhere a = record { applied = a; lands = tt }
@@ -147,12 +141,12 @@ pub applies_none : {A : Type 0} {img : List ℕ} {lay : Layout} {u : Unifier} (x
 unfolding resolve_identifiers
 applies_none {u = u} x = record { keeps = keeps_refl u; means = λ bytes budget p σ types good stand. (types, refl, stand) }
 
--- A slot is that of the identifier at a place: its type is resolved, and put in its place.
-module _ {img : List ℕ} {lay : Layout} {u : Unifier} {place slot : ℕ} (p : Passing img lay u) (f : PlaceFits img place) (e : slot ≡ cell Identifiers img (word img place) 0) where
+-- A slot is that of an identifier: its type is resolved, and put in its place.
+module _ {img : List ℕ} {lay : Layout} {u : Unifier} {id slot : ℕ} (p : Passing img lay u) (low : id < count Identifiers img) (e : slot ≡ cell Identifiers img id 0) where
   slot_low : slot < lay.slots
   slot_low =
       let s = p.slots in
-      let l = identifier_slot img _ (checked p.passed).references (word img place) f.identifier in
+      let l = identifier_slot img _ (checked p.passed).references id low in
       omega arith
 
   -- its word lies in the work words
@@ -168,9 +162,9 @@ module _ {img : List ℕ} {lay : Layout} {u : Unifier} {place slot : ℕ} (p : P
   slot_known = record { room = p.room; σ = p.σ; t = get_or p.types slot poly; good = p.good; rep = slot_type p.stand }
 
   one_visit : (fn b i k : ℕ) (bytes : List ℕ) (σ : Log) (types : List Ty)
-      → resolve_identifiers σ u.left types (place_visits img fn b i k place bytes) ≡ and_then (get σ u.left (get_or types slot poly)) (λ t s. done (set types slot t) s)
+      → resolve_identifiers σ u.left types (identifier_visits img fn b i k id bytes) ≡ and_then (get σ u.left (get_or types slot poly)) (λ t s. done (set types slot t) s)
   unfolding resolve_identifiers visit
-  one_visit fn b i k bytes σ types = rw (slot_is img bytes (word img place) f.identifier, e)
+  one_visit fn b i k bytes σ types = rw (slot_is img bytes id low, e)
 
   get_keeps : {v : Unifier} {r : Result ℕ Refusal} → Gives u (at u.words.now (lay.entries + slot)) v r → PassKeeps u v
   get_keeps a =
@@ -187,9 +181,9 @@ module _ {img : List ℕ} {lay : Layout} {u : Unifier} {place slot : ℕ} (p : P
       }
 
   -- the type was not resolved
-  pub place_refused : {A : Type 0} {v : Unifier} {why : Refusal} → Gives u (at u.words.now (lay.entries + slot)) v (Err why) → (fn b i k : ℕ)
-      → Applies {A = A} (place_visits img fn b i k place) img lay u v (Err why)
-  place_refused a fn b i k =
+  pub identifier_refused : {A : Type 0} {v : Unifier} {why : Refusal} → Gives u (at u.words.now (lay.entries + slot)) v (Err why) → (fn b i k : ℕ)
+      → Applies {A = A} (identifier_visits img fn b i k id) img lay u v (Err why)
+  identifier_refused a fn b i k =
       record {
         keeps = get_keeps a;
         means = λ bytes budget o σ types good stand.
@@ -247,9 +241,9 @@ module _ {img : List ℕ} {lay : Layout} {u : Unifier} {place slot : ℕ} (p : P
             (rep_same put v.top g (λ j c b. put_same j (omega arith) ∙ fr.below j (omega arith) b) (s.each k lt))
 
     -- it was, and is put in its place
-    pub place_resolved : {A : Type 0} (x : A) (fn b i k : ℕ) → Applies (place_visits img fn b i k place) img lay u (with_words v put) (Ok x)
+    pub identifier_resolved : {A : Type 0} (x : A) (fn b i k : ℕ) → Applies (identifier_visits img fn b i k id) img lay u (with_words v put) (Ok x)
     unfolding and_then
-    place_resolved x fn b i k =
+    identifier_resolved x fn b i k =
         record {
           keeps = put_keeps;
           means = λ bytes budget o σ types good stand.

@@ -14,8 +14,9 @@ use Rattle.run_definition.specs.Visits.{Visit, phi_visit}
 use Rattle.run_definition.specs.Position.{words_at, items_at, phi_at, after_instruction, instructions_at, after_instructions, after_phi, phis_at, after_phis, after_block, blocks_at, after_blocks}
 use Rattle.run_definition.specs.Fitting.{IdentifierAt, IdentifiersAt, InstructionFits, InstructionOfFits, InstructionsFit, no_instruction, instruction_then, PhiFits, PhisFit, no_phi, phi_then, BlockFits, BlocksFit, no_block, block_then, PlaceFits}
 use Rattle.unifier_nodes.specs.declared.state.Unifier.{Unifier}
-use Rattle.run_apply.specs.Applying.{Passing, Applies, AppliesTo, ItemOfFits, place_visits, item_visits_at, items_visits_at, context_visits_at, phis_visits_at, instruction_visits_at, instructions_visits_at, block_visits_at, blocks_visits_at}
+use Rattle.run_apply.specs.Applying.{Passing, Applies, AppliesTo, identifier_visits, item_visits_at, items_visits_at, context_visits_at, phis_visits_at, instruction_visits_at, instructions_visits_at, block_visits_at, blocks_visits_at}
 use Rattle.run_layout.specs.declared.Layout.{Layout}
+use Rattle.run_reading.proofs.ReadingLaws.{lies}
 use Rattle.run_apply.proofs.ApplyLaws.{short_image, applies_then, applies_none, applies_as, applies_refused, passing_next}
 
 -- what a loop goes over, in a function that answers such a value: n parts from a position on, by what was shown of them, where they end
@@ -106,12 +107,7 @@ left_to t {n = n} {k = k} {at} l ge x =
 module _ {img : List ℕ} {lay : Layout} {u : Unifier} {at : ℕ} (p : Passing img lay u) where
   -- an instruction lies in the image
   pub instruction_lies : InstructionFits img at → (at + 4 + 3 * word img (at + 3) ≤ length img) × (length img ≤ 65536)
-  unfolding after_instruction
-  instruction_lies f = (f.inside, short_image p)
-
-  -- its items fit
-  pub items_fit : InstructionFits img at → (k : ℕ) → k < word img (at + 3) → ItemOfFits img at (at + 4 + 3 * k)
-  items_fit f k l = let h = instruction_lies f in record { kind = f.kind; inside = omega arith; here = omega arith; fits = f.item k l }
+  instruction_lies f = (lies f, short_image p)
 
   -- a phi lies in the image
   pub phi_lies : PhiFits img at → (at + 2 + word img (at + 1) ≤ length img) × (length img ≤ 65536)
@@ -122,8 +118,8 @@ module _ (img : List ℕ) where
   abbrev pub items_course : ℕ → Course (ℕ × ℕ × ℕ) (Unit {0})
   items_course at =
       record {
-        Fits = λ place n. (k : ℕ) → k < n → ItemOfFits img at (place + 3 * k);
-        One = ItemOfFits img at;
+        Fits = λ place n. Unit {0};
+        One = λ place. Unit {0};
         next = λ place. place + 3;
         after = λ place n. place + 3 * n;
         one = λ x k place. item_visits_at img x.0 x.1 x.2 k at place;
@@ -134,8 +130,8 @@ module _ (img : List ℕ) where
   unfolding items_at concat_map_from
   items_turn at =
       record {
-        first = λ place n f. subst (ItemOfFits img at) (omega arith) (f 0 (omega arith));
-        later = λ place n f k l. subst (ItemOfFits img at) (omega arith) (f (k + 1) (omega arith));
+        first = λ place n f. tt;
+        later = λ place n f. tt;
         after_none = λ place. omega arith;
         after_more = λ place n. omega arith;
         all_none = λ x k place bytes. refl;
@@ -150,7 +146,7 @@ module _ (img : List ℕ) where
         One = PlaceFits img;
         next = λ at. at + 1;
         after = λ at n. at + n;
-        one = λ x k at. place_visits img x.0 x.1 x.2 NONE at;
+        one = λ x k at. identifier_visits img x.0 x.1 x.2 NONE (word img at);
         all = λ x k at n. context_visits_at img x.0 x.1 x.2 at n;
       }
 
@@ -178,7 +174,7 @@ module _ (img : List ℕ) where
         One = PhiFits img;
         next = after_phi img;
         after = after_phis img;
-        one = λ x k at. place_visits img x.0 x.1 NONE NONE at;
+        one = λ x k at. identifier_visits img x.0 x.1 NONE NONE (word img at);
         all = λ x k at n. phis_visits_at img x.0 x.1 at n;
       }
 

@@ -3,7 +3,6 @@ use Prim.Native.Nat.{ℕ, ◌+◌, ◌*◌, ◌≤◌, ◌<◌}
 use mathlib.Core.Path.{◌≡◌, refl, sym, ap, subst, ◌∙◌}
 use mathlib.Core.Bool.{Bool, true, false, ◌||◌, false≢true}
 use mathlib.Core.Option.{Option, none, some}
-use mathlib.Core.Logic.{◌⊎◌, inl, inr}
 use mathlib.Core.List.{List, [], ◌∷◌, ◌++◌, map}
 use native.Mathlib.Omega.{arith}
 use lib.ListN.{length, get_or}
@@ -14,8 +13,8 @@ use Rattle.std.specs.Prelude.{Result, Ok, Err, IfOk}
 use Rattle.image.specs.declared.refusal.Refusal.{Refusal}
 use Rattle.image.specs.Ty.{NONE}
 use Rattle.image.specs.Image.{word, count, cell, outermost}
-use Rattle.image.specs.Kind.{Aux, unused, flag, name_or_none, type_or_none, function, Items, places_then, pattern, Form, forms, Debugger}
-use Rattle.image.specs.Body.{Body, nested, nested_by}
+use Rattle.image.specs.Kind.{unused, Items, places_then, pattern, Form, forms, Debugger}
+use Rattle.image.specs.Body.{Body, nested}
 use Rattle.image.specs.Check.{rows_pass}
 use Rattle.image.specs.Program.{program, function_of, from_outermost}
 use Rattle.image.proofs.Passed.{rows_each}
@@ -24,7 +23,7 @@ use Rattle.run_definition.specs.Visits.{Visit, visit, key_visits, item_visits, n
 use Rattle.run_definition.specs.Position.{words_at, item_at, form_at, instruction_at, after_instructions, after_phis, count_place, terminal_place, block_at, after_block, blocks_at, context_place, blocks_place, body_from}
 use Rattle.run_definition.specs.Fitting.{Passed, IdentifiersAt, InstructionsFit, BlockFits, BlocksFit, BodyFits, PlaceFits}
 use Rattle.unifier_nodes.specs.declared.state.Unifier.{Unifier}
-use Rattle.run_apply.specs.Applying.{Applies, Passing, AppliesTo, place_visits, item_visits_at, items_visits_at, context_visits_at, phis_visits_at, inner_visits, nested_visits_at, instruction_visits_at, instructions_visits_at, block_visits_at, blocks_visits_at}
+use Rattle.run_apply.specs.Applying.{Applies, Passing, AppliesTo, identifier_visits, item_visits_at, items_visits_at, context_visits_at, phis_visits_at, inner_visits, nested_visits_at, instruction_visits_at, instructions_visits_at, block_visits_at, blocks_visits_at}
 use Rattle.run_layout.specs.declared.Layout.{Layout}
 use Rattle.run_definition.proofs.Depths.{visits_unfold}
 use Rattle.run_definition.proofs.ProgramScope.{functions_length, scoped_program}
@@ -37,14 +36,6 @@ abbrev has_places : Items → Bool
 has_places (places_then n tags) = true
 has_places pattern = false
 
--- whether no function is named
-abbrev names_none : Aux → Bool
-names_none unused = true
-names_none flag = true
-names_none name_or_none = true
-names_none type_or_none = true
-names_none function = false
-
 -- the form of a kind; that of Debugger from 42 on
 abbrev the_form : ℕ → Form
 the_form k = get_or forms k (record { kind = Debugger; aux = unused; items = places_then 0 [] })
@@ -54,43 +45,19 @@ places_but_one : (k : ℕ) → k < 42 → (k ≡ 6 → ⊥) → has_places (the_
 unfolding forms rows_pass
 places_but_one k l n = rw (ne_eqb k 6 n) at (rows_each (λ j. eqb j 6 || has_places (the_form j).items) 42 k refl l)
 
--- kinds 17 and 30 alone name a function
-none_but_two : (k : ℕ) → k < 42 → (k ≡ 17 → ⊥) → (k ≡ 30 → ⊥) → names_none (the_form k).aux ≡ true
-unfolding forms rows_pass
-none_but_two k l n m =
-    rw (ne_eqb k 17 n, ne_eqb k 30 m) at (rows_each (λ j. eqb j 17 || (eqb j 30 || names_none (the_form j).aux)) 42 k refl l)
-
-no_name : (a : Aux) (w : ℕ) → names_none a ≡ true → nested_by a w ≡ none
-unfolding nested_by
-no_name unused w e = refl
-no_name flag w e = refl
-no_name name_or_none w e = refl
-no_name type_or_none w e = refl
-no_name function w e = absurd (false≢true e)
-
 -- where reading goes on, in other words
 lands_as : {m n : ℕ} (r : Result ℕ Refusal) → m ≡ n → IfOk r (λ at. at ≡ m) → IfOk r (λ at. at ≡ n)
 lands_as (Ok at) e h = h ∙ e
 lands_as (Err why) e h = h
 
 module _ (img : List ℕ) where
-  -- what an instruction names, by its kind
-  pub nested_none : (at : ℕ) → word img at < 42 → (word img at ≡ 17 → ⊥) → (word img at ≡ 30 → ⊥) → nested (instruction_at img at) ≡ none
-  unfolding nested instruction_at form_at
-  nested_none at l n m = no_name (the_form (word img at)).aux (word img (at + 2)) (none_but_two (word img at) l n m)
-
-  pub nested_some : (at : ℕ) → (word img at ≡ 17) ⊎ (word img at ≡ 30) → nested (instruction_at img at) ≡ some (word img (at + 2))
-  unfolding nested nested_by instruction_at form_at forms
-  nested_some at (inl e) = rw e
-  nested_some at (inr e) = rw e
-
   module _ (at place f b i k : ℕ) (bytes : List ℕ) where
     no_key : (s : Items) → (word img place ≡ 4 → ⊥) → key_visits (program img bytes) s f b i k (item_at img place) ≡ []
     unfolding key_visits has_tag item_at
     no_key (places_then n tags) m = rw (ne_eqb (word img place) 4 m, key_visits)
     no_key pattern m = refl
 
-    one_key : (s : Items) → has_places s ≡ true → word img place ≡ 4 → key_visits (program img bytes) s f b i k (item_at img place) ≡ place_visits img f b i k (place + 2) bytes
+    one_key : (s : Items) → has_places s ≡ true → word img place ≡ 4 → key_visits (program img bytes) s f b i k (item_at img place) ≡ identifier_visits img f b i k (word img (place + 2)) bytes
     unfolding key_visits has_tag item_at
     one_key (places_then n tags) q e = rw (eq-eqb (word img place) 4 e, key_visits)
     one_key pattern q e = absurd (false≢true q)
@@ -101,31 +68,31 @@ module _ (img : List ℕ) where
     item_hole e = rw (eq-eqb (word img place) 2 e, item_visits)
 
     module _ (n : word img place ≡ 2 → ⊥) where
-      item_visited : {vs : List Visit} → key_visits (program img bytes) (form_at img at).items f b i k (item_at img place) ≡ vs → item_visits_at img f b i k at place bytes ≡ place_visits img f b i k (place + 1) bytes ++ vs
+      item_visited : {vs : List Visit} → key_visits (program img bytes) (form_at img at).items f b i k (item_at img place) ≡ vs → item_visits_at img f b i k at place bytes ≡ identifier_visits img f b i k (word img (place + 1)) bytes ++ vs
       unfolding item_visits has_tag item_at
       item_visited {vs} e = rw (ne_eqb (word img place) 2 n, item_visits) (ap (λ (xs : List Visit). visit (program img bytes) f b i k (word img (place + 1)) ∷ xs) e)
 
       -- one with no computed key
-      pub item_plain : (word img place ≡ 4 → ⊥) → item_visits_at img f b i k at place bytes ≡ place_visits img f b i k (place + 1) bytes
+      pub item_plain : (word img place ≡ 4 → ⊥) → item_visits_at img f b i k at place bytes ≡ identifier_visits img f b i k (word img (place + 1)) bytes
       item_plain m = item_visited (no_key (form_at img at).items m)
 
       -- with one, in a pattern
-      pub item_pattern : word img at ≡ 6 → item_visits_at img f b i k at place bytes ≡ place_visits img f b i k (place + 1) bytes
+      pub item_pattern : word img at ≡ 6 → item_visits_at img f b i k at place bytes ≡ identifier_visits img f b i k (word img (place + 1)) bytes
       unfolding key_visits form_at forms
       item_pattern e = item_visited (rw e)
 
       -- and elsewhere
-      pub item_keyed : word img place ≡ 4 → word img at < 42 → (word img at ≡ 6 → ⊥) → item_visits_at img f b i k at place bytes ≡ place_visits img f b i k (place + 1) bytes ++ place_visits img f b i k (place + 2) bytes
+      pub item_keyed : word img place ≡ 4 → word img at < 42 → (word img at ≡ 6 → ⊥) → item_visits_at img f b i k at place bytes ≡ identifier_visits img f b i k (word img (place + 1)) bytes ++ identifier_visits img f b i k (word img (place + 2)) bytes
       unfolding form_at
       item_keyed e l m = item_visited (one_key (form_at img at).items (places_but_one (word img at) l m) e)
 
   -- an item's place is refused
-  pub item_refused : {lay : Layout} {u v : Unifier} {A B : Type 0} {why : Refusal} (at place f b i k : ℕ) → (word img place ≡ 2 → ⊥) → Applies {A = A} (place_visits img f b i k (place + 1)) img lay u v (Err why) → Applies {A = B} (item_visits_at img f b i k at place) img lay u v (Err why)
+  pub item_refused : {lay : Layout} {u v : Unifier} {A B : Type 0} {why : Refusal} (at place f b i k : ℕ) → (word img place ≡ 2 → ⊥) → Applies {A = A} (identifier_visits img f b i k (word img (place + 1))) img lay u v (Err why) → Applies {A = B} (item_visits_at img f b i k at place) img lay u v (Err why)
   item_refused {why = why} at place f b i k n a =
       applies_as (Err why) (λ bytes budget p. item_visited at place f b i k bytes n refl) (applies_refused (λ bytes. key_visits (program img bytes) (form_at img at).items f b i k (item_at img place)) a)
 
   -- an instruction: lvalue, items, and what it names
-  instruction_parts : (f b i at : ℕ) {o : Option ℕ} (bytes : List ℕ) → nested (instruction_at img at) ≡ o → instruction_visits_at img f b i at bytes ≡ place_visits img f b i NONE (at + 1) bytes ++ (items_visits_at img f b i at 0 (at + 4) (word img (at + 3)) bytes ++ nested_visits (program img bytes) (inner_visits img bytes) f b i o)
+  instruction_parts : (f b i at : ℕ) {o : Option ℕ} (bytes : List ℕ) → nested (instruction_at img at) ≡ o → instruction_visits_at img f b i at bytes ≡ identifier_visits img f b i NONE (word img (at + 1)) bytes ++ (items_visits_at img f b i at 0 (at + 4) (word img (at + 3)) bytes ++ nested_visits (program img bytes) (inner_visits img bytes) f b i o)
   unfolding instruction_visits instruction_at
   instruction_parts f b i at bytes e = rw e
 
@@ -135,13 +102,13 @@ module _ (img : List ℕ) where
 
   module _ {lay : Layout} {u v : Unifier} (f b i at : ℕ) where
     -- its lvalue is refused
-    pub lvalue_refused : {A B : Type 0} {why : Refusal} → Applies {A = A} (place_visits img f b i NONE (at + 1)) img lay u v (Err why) → Applies {A = B} (instruction_visits_at img f b i at) img lay u v (Err why)
+    pub lvalue_refused : {A B : Type 0} {why : Refusal} → Applies {A = A} (identifier_visits img f b i NONE (word img (at + 1))) img lay u v (Err why) → Applies {A = B} (instruction_visits_at img f b i at) img lay u v (Err why)
     unfolding named_visits
     lvalue_refused {why = why} a =
         applies_as (Err why) (λ bytes budget p. instruction_parts f b i at bytes refl)
         (applies_refused (λ bytes. items_visits_at img f b i at 0 (at + 4) (word img (at + 3)) bytes ++ named_visits f b i at bytes) a)
 
-    module _ {x : Unit {0}} (a : Applies (place_visits img f b i NONE (at + 1)) img lay u v (Ok x)) {y : Unifier} where
+    module _ {x : Unit {0}} (a : Applies (identifier_visits img f b i NONE (word img (at + 1))) img lay u v (Ok x)) {y : Unifier} where
       -- an item is
       pub items_refused : {A B : Type 0} {why : Refusal} → Applies {A = A} (items_visits_at img f b i at 0 (at + 4) (word img (at + 3))) img lay v y (Err why) → Applies {A = B} (instruction_visits_at img f b i at) img lay u y (Err why)
       unfolding named_visits
@@ -237,7 +204,7 @@ module _ {img : List ℕ} {lay : Layout} {u : Unifier} {f at : ℕ} (p : Passing
       blocks_fit = subst (λ (k : ℕ). BlocksFit img f (k + 1) (word img k)) is_blocks the_body.blocks
 
       -- what a function visits: blocks, and returns
-      function_are : {bytes : List ℕ} {budget : ℕ} → Passed img bytes budget → inner_visits img bytes f ≡ blocks_visits_at img f 0 (place + 1) (word img place) bytes ++ place_visits img f NONE NONE NONE (at + 1) bytes
+      function_are : {bytes : List ℕ} {budget : ℕ} → Passed img bytes budget → inner_visits img bytes f ≡ blocks_visits_at img f 0 (place + 1) (word img place) bytes ++ identifier_visits img f NONE NONE NONE (word img (at + 1)) bytes
       unfolding function_visits body_from inner_visits
       function_are {bytes} s =
           let n = functions_length img bytes (checked s) in
@@ -246,9 +213,9 @@ module _ {img : List ℕ} {lay : Layout} {u : Unifier} {f at : ℕ} (p : Passing
           ∙ ap (λ (k : ℕ). concat_map_from (block_visits (program img bytes) (inner_visits img bytes) f) 0 (blocks_at img (k + 1) (word img k)) ++ (visit (program img bytes) f NONE NONE NONE (word img (at + 1)) ∷ [])) is_blocks
 
       pub function_refused : {A B : Type 0} {v : Unifier} {why : Refusal} → Applies {A = A} (blocks_visits_at img f 0 (place + 1) (word img place)) img lay u v (Err why) → Applies {A = B} (λ bytes. inner_visits img bytes f) img lay u v (Err why)
-      function_refused {why = why} a = applies_as (Err why) (λ bytes budget s. function_are s) (applies_refused (place_visits img f NONE NONE NONE (at + 1)) a)
+      function_refused {why = why} a = applies_as (Err why) (λ bytes budget s. function_are s) (applies_refused (identifier_visits img f NONE NONE NONE (word img (at + 1))) a)
 
-      pub function_parts : {A B : Type 0} {v y : Unifier} {x : A} (r : Result B Refusal) → Applies (blocks_visits_at img f 0 (place + 1) (word img place)) img lay u v (Ok x) → Applies (place_visits img f NONE NONE NONE (at + 1)) img lay v y r → Applies (λ bytes. inner_visits img bytes f) img lay u y r
+      pub function_parts : {A B : Type 0} {v y : Unifier} {x : A} (r : Result B Refusal) → Applies (blocks_visits_at img f 0 (place + 1) (word img place)) img lay u v (Ok x) → Applies (identifier_visits img f NONE NONE NONE (word img (at + 1))) img lay v y r → Applies (λ bytes. inner_visits img bytes f) img lay u y r
       function_parts r a d = applies_as r (λ bytes budget s. function_are s) (applies_then r a d)
 
 -- the outermost function

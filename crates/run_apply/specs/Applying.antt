@@ -4,7 +4,7 @@ use Rattle.std.proofs.Math.Option.{some}
 use Rattle.image.specs.declared.Table.TheVariants.{Slots}
 use Rattle.image.specs.declared.refusal.Refusal.{Refusal}
 use Rattle.image.specs.Ty.{NONE, Ty}
-use Rattle.image.specs.Image.{word, count}
+use Rattle.image.specs.Image.{count}
 use Rattle.image.specs.Program.{program, function_of, to_depth}
 use Rattle.unifier_definition.specs.Log.{Log}
 use Rattle.unifier_nodes.specs.Work.{at}
@@ -13,10 +13,11 @@ use Rattle.unifier_nodes.specs.declared.state.Unifier.{Unifier}
 use Rattle.run_definition.specs.Items.{concat_map_from}
 use Rattle.run_definition.specs.Visits.{Visit, visit, item_visits, nested_visits, instruction_visits, phi_visit, block_visits, function_visits, resolve_identifiers}
 use Rattle.run_definition.specs.Position.{words_at, item_at, items_at, form_at, instruction_at, instructions_at, phis_at, block_at, blocks_at}
-use Rattle.run_definition.specs.Fitting.{Passed, ItemFits}
+use Rattle.run_definition.specs.Fitting.{Passed}
 use Rattle.run_layout.specs.Layout.{Prepared}
 use Rattle.run_tables.specs.Standing.{SlotsStand}
 use Rattle.run_layout.specs.declared.Layout.{Layout}
+use Rattle.run_reading.specs.declared.env.Env.{Env}
 
 -- the slots' types stand in the unifier's words
 abbrev pub SlotsIn : Layout → Unifier → List Ty → Type 0
@@ -61,7 +62,9 @@ pub record AppliesTo (next : ℕ) (vs : List ℕ → List Visit) (img : List ℕ
   pub applied : Applies vs img lay u u' r
   pub lands : IfOk r (λ at. at ≡ next)
 
--- what a private part asks: room, and words that stand for a log and the slots' types, which lie past what the steps left can make
+-- what a private part asks: room, and words that stand for a log and the slots' types, which lie past what the steps left can make. It is no
+-- invariant of a struct: it relates the unifier's words, which change, to the image and the layout, which do not, and after a refusal the
+-- words need stand for nothing.
 pub record Passing (img : List ℕ) (lay : Layout) (u : Unifier) : Type 0 where
   pub bytes : List ℕ
   pub budget : ℕ
@@ -76,18 +79,21 @@ pub record Passing (img : List ℕ) (lay : Layout) (u : Unifier) : Type 0 where
   pub good : GoodIn u σ
   pub stand : SlotsIn lay u types
 
--- an item of the instruction at a position
-pub record ItemOfFits (img : List ℕ) (at place : ℕ) : Type 0 where
-  pub kind : word img at < 42
-  pub inside : at < length img
-  pub here : place + 3 ≤ length img
-  pub fits : ItemFits img place
+-- these of the private parts, by an environment
+abbrev pub PassingIn : Env → Unifier → Type 0
+PassingIn env u = Passing env.image.now env.lay u
+
+abbrev pub AppliesIn : {A : Type 0} → (List ℕ → List ℕ → List Visit) → Env → (u u' : Unifier) → Result A Refusal → Type 0
+AppliesIn vs env u u' r = Applies (vs env.image.now) env.image.now env.lay u u' r
+
+abbrev pub AppliesToIn : (List ℕ → ℕ) → (List ℕ → List ℕ → List Visit) → Env → (u u' : Unifier) → Result ℕ Refusal → Type 0
+AppliesToIn next vs env u u' r = AppliesTo (next env.image.now) (vs env.image.now) env.image.now env.lay u u' r
 
 -- The visits of the parts by where they stand. Their numbers of functions, blocks, instructions and items are free: no slot's type depends on them.
 module _ (img : List ℕ) where
-  -- of a place
-  abbrev pub place_visits : (f b i k at : ℕ) → List ℕ → List Visit
-  place_visits f b i k at bytes = visit (program img bytes) f b i k (word img at) ∷ []
+  -- of an identifier
+  abbrev pub identifier_visits : (f b i k id : ℕ) → List ℕ → List Visit
+  identifier_visits f b i k id bytes = visit (program img bytes) f b i k id ∷ []
 
   -- of an item
   abbrev pub item_visits_at : (f b i k at place : ℕ) → List ℕ → List Visit

@@ -1,115 +1,89 @@
 -- Nodes that stand for a type all through the run, and equations between them one after another. Assumes nothing.
-use Prim.Native.Nat.{ℕ, ◌+◌, ◌*◌, ◌≤◌, ◌<◌}
-use mathlib.Core.Path.{◌≡◌, refl}
-use mathlib.Core.List.{List, [], ◌∷◌, ◌++◌}
-use native.Mathlib.Omega.{arith}
-use lib.ListN.{length}
+use Rattle.std.proofs.Common.{ℕ, ◌+◌, ◌*◌, ◌<◌, ◌≡◌, refl, arith, List, [], ◌∷◌, ◌++◌, Result, Ok, Err}
+use Rattle.std.specs.Prelude.{IsErrAnd}
+use Rattle.unifier_nodes.proofs.Promised.{handed_on}
 use Rattle.image.specs.declared.Table.TheVariants.{Identifiers, Types}
+use Rattle.image.specs.declared.refusal.Refusal.{Refusal}
 use Rattle.image.specs.Ty.{Ty, var, prim, method, object}
 use Rattle.image.specs.Image.{word, count, cell, type_at}
-use Rattle.image.specs.Laid.{Laid}
 use Rattle.unifier_definition.specs.Unify.{Equation, ◌≐◌}
-use Rattle.unifier_nodes.specs.Work.{Rep, rep_var}
+use Rattle.unifier_nodes.specs.Work.{rep_var}
 use Rattle.unifier_nodes.specs.Walks.{type_node}
-use Rattle.run_definition.specs.Position.{after_instruction}
+use Rattle.unifier_nodes.specs.States.{RepIn}
 use Rattle.run_definition.specs.Fitting.{IdentifierAt}
-use Rattle.run_walk.specs.Solving.{place_type, Solving, Solves, StandFor, EqualAsked, Equates, AtInstruction}
-use Rattle.run_layout.specs.declared.Layout.{Layout}
+use Rattle.run_reading.specs.declared.env.Env.{Env}
+use Rattle.run_reading.specs.declared.instruction.Instruction.{Instruction}
+use Rattle.run_walk.specs.Solving.{place_type, item_count, lvalue_type, operand_type, Solving, Solves, StandFor, EqualAsked, Equates, StandMade, MadeAsked}
 use Rattle.run_walk.specs.declared.Walk.{Walk}
-use Rattle.run_walk.proofs.Composing.{solving_on, solves_next, prim_rep, method_rep, object_rep, place_rep}
+use Rattle.run_walk.proofs.Composing.{solving_on, solves_then, solves_stopped, prim_rep, method_rep, object_rep, place_rep}
 
 -- a node that stands for a type wherever a part may ask
-pub record Standing (img : List ℕ) (lay : Layout) (a : ℕ) (t : Ty) : Type 0 where
-  pub rep : (w : List ℕ) (g : Walk) → Solving img w lay g → Rep w lay.lo g.top a t
+pub record Standing (env : Env) (a : ℕ) (t : Ty) : Type 0 where
+  pub rep : (g : Walk) → Solving env g → RepIn g.unifier a t
 
-module _ {img : List ℕ} {lay : Layout} where
+module _ {env : Env} where
   -- the Primitive, the ObjectMethod, the Object of a shape up to REF_VALUE
-  pub prim_stands : Standing img lay lay.own prim
-  prim_stands = record { rep = λ w g s. prim_rep s }
+  pub prim_stands : Standing env env.lay.own prim
+  prim_stands = record { rep = λ g s. prim_rep s }
 
-  pub method_stands : Standing img lay (lay.own + 3) method
-  method_stands = record { rep = λ w g s. method_rep s }
+  pub method_stands : Standing env (env.lay.own + 3) method
+  method_stands = record { rep = λ g s. method_rep s }
 
-  pub object_stands : {a : ℕ} (shape : ℕ) → shape < 8 → a ≡ lay.own + 6 + 3 * shape → Standing img lay a (object shape)
-  object_stands shape l e = record { rep = λ w g s. rw e (object_rep s shape l) }
+  pub object_stands : {a : ℕ} (shape : ℕ) → shape < 8 → a ≡ env.lay.own + 6 + 3 * shape → Standing env a (object shape)
+  object_stands shape l e = record { rep = λ g s. rw e (object_rep s shape l) }
 
   -- a slot below the nodes
-  pub var_stands : {n : ℕ} → n < lay.lo → Standing img lay n (var n)
-  var_stands {n} l = record { rep = λ w g s. rep_var {n = n} l refl }
+  pub var_stands : {n : ℕ} → n < env.lay.lo → Standing env n (var n)
+  var_stands {n} l = record { rep = λ g s. rep_var {n = n} (omega (arith, s.lo)) refl }
 
   -- the identifier at a position
-  pub place_stands : {a : ℕ} (k : ℕ) → IdentifierAt img k → a ≡ cell Identifiers img (word img k) 0 → Standing img lay a (place_type img k)
-  place_stands k l e = record { rep = λ w g s. rw e (place_rep s k l) }
+  pub place_stands : {a : ℕ} (k : ℕ) → IdentifierAt env.image.now k → a ≡ cell Identifiers env.image.now (word env.image.now k) 0 → Standing env a (place_type env.image.now k)
+  place_stands k l e = record { rep = λ g s. rw e (place_rep s k l) }
 
   -- an identifier
-  pub slot_stands : {a : ℕ} (i : ℕ) → i < count Identifiers img → a ≡ cell Identifiers img i 0 → Standing img lay a (var (cell Identifiers img i 0))
-  slot_stands i l e = record { rep = λ w g s. rw e (rep_var {n = cell Identifiers img i 0} (s.slot_inside i l) refl) }
+  pub slot_stands : {a : ℕ} (i : ℕ) → i < count Identifiers env.image.now → a ≡ cell Identifiers env.image.now i 0 → Standing env a (var (cell Identifiers env.image.now i 0))
+  slot_stands i l e = record { rep = λ g s. rw e (rep_var {n = cell Identifiers env.image.now i 0} (s.slot_inside i l) refl) }
 
   -- a type of the image
-  pub type_stands : {a : ℕ} (n : ℕ) → n < count Types img → a ≡ type_node img lay.lo n → Standing img lay a (type_at img n)
-  type_stands n l e = record { rep = λ w g s. rw e (s.prepared.types.rep n l) }
+  pub type_stands : {a : ℕ} (n : ℕ) → n < count Types env.image.now → a ≡ type_node env.image.now env.lay.lo n → Standing env a (type_at env.image.now n)
+  type_stands n l e = record { rep = λ g s. rw (e, s.lo) (s.prepared.types.rep n l) }
 
-module _ {img w : List ℕ} {lay : Layout} {g : Walk} {a b : ℕ} {t u : Ty} (s : Solving img w lay g) (p : Standing img lay a t) (q : Standing img lay b u) where
-  stands_for : StandFor w lay g a b t u
-  stands_for = record { left = p.rep w g s; right = q.rep w g s }
+-- the lvalue of an instruction, and item k's identifier
+module _ (on : Instruction) where
+  pub lvalue_stands : {a : ℕ} → a ≡ cell Identifiers on.env.now.image.now (word on.env.now.image.now (on.at + 1)) 0 → Standing on.env.now a (lvalue_type on)
+  lvalue_stands e = place_stands (on.at + 1) on.fits.lvalue e
+
+  pub operand_stands : {a : ℕ} (k : ℕ) → k < item_count on → a ≡ cell Identifiers on.env.now.image.now (word on.env.now.image.now (on.at + 5 + 3 * k)) 0 → Standing on.env.now a (operand_type on k)
+  operand_stands k l e =
+      let q : on.at + 4 + 3 * k + 1 ≡ on.at + 5 + 3 * k = omega arith in place_stands (on.at + 5 + 3 * k) (rw q at (on.fits.item k l).id) e
+
+module _ {env : Env} {g : Walk} {a b : ℕ} {t u : Ty} (s : Solving env g) (p : Standing env a t) (q : Standing env b u) where
+  stands_for : StandFor g.unifier a b t u
+  stands_for = record { left = p.rep g s; right = q.rep g s }
 
   -- what `equal` asks
-  pub equal_asks : EqualAsked w lay g a b
-  equal_asks = record { img = img; solving = s; t = t; u = u; stand = stands_for }
+  pub equal_asks : EqualAsked g a b
+  equal_asks = record { env = env; solving = s; t = t; v = u; stand = stands_for }
 
   -- one equation
-  pub equal_solves : {w' : List ℕ} {r : Walk} → Equates w w' lay g a b r → Solves (t ≐ u ∷ []) 0 w w' lay g r
-  equal_solves e = (e.means t u (λ z. stands_for)).solves s.running
+  pub equal_solves : {r : Walk} {o : Result (Unit {0}) Refusal} → Equates g a b r o → Solves (t ≐ u ∷ []) 0 g r o
+  equal_solves e = e.means t u stands_for
 
 -- after other equations
-module _ {img w w₁ : List ℕ} {lay : Layout} {g g₁ : Walk} {es : List Equation} {m a b : ℕ} {t u : Ty} (s : Solving img w lay g) (f : Solves es m w w₁ lay g g₁) (p : Standing img lay a t) (q : Standing img lay b u) where
+module _ {A : Type 0} {env : Env} {g r : Walk} {x : A} {es : List Equation} {m a b : ℕ} {t u : Ty} (s : Solving env g) (f : Solves es m g r (Ok x)) (p : Standing env a t) (q : Standing env b u) where
   -- what `equal` asks
-  pub equal_asks_on : g₁.refused ≡ 0 → EqualAsked w₁ lay g₁ a b
-  equal_asks_on z = equal_asks (solving_on s f z) p q
+  pub equal_asks_on : EqualAsked r a b
+  equal_asks_on = equal_asks (solving_on f s) p q
 
   -- one equation more
-  pub equal_solves_on : {w₂ : List ℕ} {g₂ : Walk} → Equates w₁ w₂ lay g₁ a b g₂ → Solves (es ++ t ≐ u ∷ []) m w w₂ lay g g₂
-  equal_solves_on e = solves_next f (e.means t u (λ z. stands_for (solving_on s f z) p q))
+  pub equal_solves_on : {v : Walk} (o : Result (Unit {0}) Refusal) → Equates r a b v o → Solves (es ++ t ≐ u ∷ []) (m + 0) g v o
+  equal_solves_on o e = solves_then f o (equal_solves (solving_on f s) p q e)
 
--- the places of an instruction
-module _ {img w : List ℕ} {lay : Layout} {g : Walk} {place n : ℕ} (h : AtInstruction img w lay g place n) where
-  -- it ends in the image
-  pub instruction_inside : place + 4 + 3 * word img (place + 3) ≤ length img
-  unfolding after_instruction
-  instruction_inside = h.fits.inside
+-- what `equal_made` asks
+pub made_asks : {env : Env} {g : Walk} {a kind x y : ℕ} {t u : Ty} → Solving env g → StandMade g.unifier a kind x y t u → MadeAsked g a kind x y
+made_asks {env} {t = t} {u} s h = record { env = env; solving = s; t = t; v = u; stand = h }
 
-  -- its position is small
-  pub instruction_low : place + 4 ≤ 65536
-  instruction_low = let i = instruction_inside in let l = h.solving.laid.short in omega arith
-
-  -- whatever items it has
-  pub instruction_any : AtInstruction img w lay g place 0
-  instruction_any = record { solving = h.solving; fits = h.fits; many = omega arith }
-
-  -- what `slot_at` asks of its lvalue
-  pub lvalue_asks : Laid img × (place + 1 < length img) × IdentifierAt img (place + 1)
-  lvalue_asks = let i = instruction_inside in (h.solving.laid, omega arith, h.fits.lvalue)
-
-  pub lvalue_stands : {a : ℕ} → a ≡ cell Identifiers img (word img (place + 1)) 0 → Standing img lay a (place_type img (place + 1))
-  lvalue_stands e = place_stands (place + 1) h.fits.lvalue e
-
-  -- of one of its items
-  item_asks : (k i : ℕ) → k < n → i ≡ place + 5 + 3 * k → Laid img × (i < length img) × IdentifierAt img i
-  item_asks k i l e =
-      let f = instruction_inside in
-      let m = h.many in
-      let q : i ≡ place + 4 + 3 * k + 1 = omega arith in
-      (h.solving.laid, omega arith, rw q (h.fits.item k (omega arith)).id)
-
-  -- of the first and the second
-  pub first_asks : 0 < n → Laid img × (place + 5 < length img) × IdentifierAt img (place + 5)
-  first_asks l = item_asks 0 (place + 5) l (omega arith)
-
-  pub first_stands : {a : ℕ} → 0 < n → a ≡ cell Identifiers img (word img (place + 5)) 0 → Standing img lay a (place_type img (place + 5))
-  first_stands l e = place_stands (place + 5) (first_asks l).2 e
-
-  pub second_asks : 1 < n → Laid img × (place + 8 < length img) × IdentifierAt img (place + 8)
-  second_asks l = item_asks 1 (place + 8) l (omega arith)
-
-  pub second_stands : {a : ℕ} → 1 < n → a ≡ cell Identifiers img (word img (place + 8)) 0 → Standing img lay a (place_type img (place + 8))
-  second_stands l e = place_stands (place + 8) (second_asks l).2 e
+-- a part was refused, which is handed on, and these were to come after it
+pub stops : {A B : Type 0} {g r : Walk} {es : List Equation} {m n : ℕ} {why : Refusal} (o : Result B Refusal) (fs : List Equation) → IsErrAnd o (λ y. y ≡ why) → Solves {A = A} es m g r (Err why)
+    → Solves (es ++ fs) n g r o
+stops o fs h f = rw (handed_on o h) (solves_stopped fs f)

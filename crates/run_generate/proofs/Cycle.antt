@@ -1,277 +1,299 @@
 -- The parts of a function: what they come to together, and what each asks of the image. Assumes nothing.
-use Prim.Native.Nat.{ℕ, ◌+◌, ◌*◌, ◌≤◌, ◌<◌}
-use mathlib.Core.Path.{◌≡◌, refl, sym, ap, ◌∙◌, subst}
-use mathlib.Core.Option.{Option, none, some}
-use mathlib.Core.List.{List, [], map}
-use native.Mathlib.Omega.{arith}
-use lib.ListN.{length}
+use Rattle.std.proofs.Common.{ℕ, ◌≡◌, ◌+◌, ◌*◌, ◌≤◌, ◌<◌, refl, sym, ap, ◌∙◌, subst, arith, List, [], length, Result, Ok, Err}
+use Rattle.std.proofs.Math.Option.{none, some}
 use Rattle.image.specs.declared.Table.TheVariants.{Functions}
+use Rattle.image.specs.declared.refusal.Refusal.{Refusal}
 use Rattle.image.specs.Ty.{Ty}
 use Rattle.image.specs.Image.{word, count, cell}
-use Rattle.image.specs.Body.{Body, nested}
-use Rattle.image.specs.Program.{program}
-use Rattle.run_definition.specs.Equations.{NamesLog, Generated, get_type}
-use Rattle.run_definition.specs.Generate.{only, followed_by, with_names, component_equations, phi_equation, return_equations, generate_nested, generate_instruction, generate_instructions, generate_block, generate_blocks, generate_function}
-use Rattle.run_definition.specs.Position.{instruction_at, instructions_at, after_instructions, phis_at, count_place, terminal_place, block_at, after_block, blocks_at, context_place, blocks_place, body_from}
-use Rattle.run_definition.specs.Fitting.{Passed, InstructionOfFits, InstructionsFit, BlockFits, BlocksFit, BodyFits}
+use Rattle.image.specs.Body.{Body, kind_of, nested}
+use Rattle.run_definition.specs.Equations.{NamesLog, Generated, get_type, generate_instruction_types}
+use Rattle.run_definition.specs.Generate.{only, followed_by, with_names, component_equations, return_equations, generate_nested, generate_instruction, generate_block, generate_function}
+use Rattle.run_definition.specs.Position.{after_instructions, after_phis, count_place, terminal_place, block_at, after_block, context_place, blocks_place, body_from}
+use Rattle.run_definition.specs.Fitting.{InstructionsFit, BlockFits, BlocksFit, BodyFits}
 use Rattle.run_layout.specs.Layout.{returned_by}
-use Rattle.run_walk.specs.Solving.{place_type, SolvesBy}
-use Rattle.run_walk.specs.Running.{Logged, none_logged, one_logged, Ready, ReadyAt, Ran, Generates, GeneratesTo}
-use Rattle.run_equations.specs.Parts.{ComponentAsked, FunctionAsked}
-use Rattle.run_generate.specs.Generating.{generate_for, FunctionReady, GeneratesInner, SolvesPhis}
-use Rattle.run_layout.specs.declared.Layout.{Layout}
+use Rattle.run_reading.specs.declared.env.Env.{Env}
+use Rattle.run_reading.specs.declared.instruction.Instruction.{Instruction}
+use Rattle.image.specs.Program.{program}
+use Rattle.run_walk.specs.Solving.{place_type, instruction_in, WalkKeeps, SolvesBy}
+use Rattle.run_walk.specs.Running.{Logged, none_logged, one_logged, program_of, Ready, Ran, Generates, GeneratesTo}
 use Rattle.run_walk.specs.declared.Walk.{Walk}
-use Rattle.run_walk.proofs.Composing.{logged_same, generates_only, ready_on, generates_same, generates_then, generates_stopped}
-use Rattle.run_generate.proofs.Dispatch.{own}
+use Rattle.run_equations.specs.Parts.{ComponentAsked, FunctionAsked}
+use Rattle.run_generate.specs.Generating.{generate_for, nested_gives, function_gives, instruction_gives, instructions_give, phis_give, block_gives, blocks_give}
 use Rattle.run_definition.proofs.Depths.{generate_unfold}
-use Rattle.run_definition.proofs.ProgramScope.{some_function, functions_length, scoped_program}
+use Rattle.run_definition.proofs.ProgramScope.{functions_length, scoped_program}
 use Rattle.run_definition.proofs.PositionLaws.{slot_is, count_place_least, terminal_place_least}
 use Rattle.run_definition.proofs.PositionsBody.{checked, body_read, body_fits}
+use Rattle.run_walk.proofs.Composing.{logged_on, generates_only, ready_on, generates_same, generates_then, generates_stopped, generates_none}
+use Rattle.run_generate.proofs.Loops.{nowhere}
 
 -- an empty stretch has no name
 nothing_logged : {img bytes w : List ℕ} {from to : ℕ} {ns : NamesLog} → Logged img bytes w from to ns → to ≡ from → ns ≡ []
 nothing_logged (none_logged e) q = refl
 nothing_logged (one_logged e l a b c h) q = absurd (omega arith)
 
--- a walk as it is, but for the names log
-abbrev pub unlogged : Walk → Walk → Walk
-unlogged g h = record { left = h.left; top = h.top; refused = h.refused; next = h.next; log = g.log; at = h.at; counts = h.counts }
+-- the walk with a stretch of the names log that begins where the log ends
+abbrev pub with_own : Walk → Walk
+with_own g = record g { names = g.log }
 
-module _ {img bytes w : List ℕ} {lay : Layout} {stretch : ℕ} {g : Walk} where
-  -- a stretch of the names log begins where another ends
-  pub ready_own : Ready img bytes w lay stretch g → Ready img bytes w lay g.log g
-  ready_own a = record { budget = a.budget; passed = a.passed; solving = a.solving; opened = a.solving.opened; begun = omega arith; names = []; logged = none_logged refl }
+-- the walk of an inner function with the names log that was there before it
+abbrev pub with_names_of : (g r : Walk) → Walk
+with_names_of g r = record r { names = g.names; log = g.log }
 
-module _ {img bytes w w' : List ℕ} {lay : Layout} {f : ℕ} {g : Walk} where
-  -- a function, and what it logged is forgotten
-  pub inner_done : {h : Walk} → Generates (λ ns k. generate_for (program img bytes) f k) img bytes w w' lay g.log g h → GeneratesInner img bytes w w' lay f g (unlogged g h)
-  unfolding with_names
-  inner_done x = record {
-    over = λ stretch o.
+-- what a function asks
+pub ready_own : {env : Env} {g : Walk} → Ready env g → Ready env (with_own g)
+ready_own a =
+    let s = a.solving in
+    record {
+      budget = a.budget;
+      passed = a.passed;
+      solving = record {
+        budget = s.budget;
+        prepared = s.prepared;
+        few = s.few;
+        slot_inside = s.slot_inside;
+        lo = s.lo;
+        stack = s.stack;
+        fewer = s.fewer;
+        room = s.room;
+        slots = s.slots;
+        apart = s.apart;
+        opened = s.opened;
+        entries = s.entries;
+        counted = s.counted;
+        σ = s.σ;
+        good = s.good;
+      };
+      opened = s.opened;
+      begun = omega arith;
+      names = [];
+      logged = none_logged refl;
+    }
+
+module _ (on : Instruction) {g : Walk} where
+  -- an instruction that names no function
+  pub inner_none : {A : Type 0} (x : A) → nested (instruction_in on) ≡ none → Generates (nested_gives on) on.env.now g g (Ok x)
+  unfolding generate_nested
+  inner_none x e = generates_same (Ok x) (λ ns. rw e) (generates_none x)
+
+  module _ {f : ℕ} (e : nested (instruction_in on) ≡ some f) {r : Walk} where
+    -- one that does: it is refused there
+    pub inner_refused : {A B : Type 0} {why : Refusal} → Generates {A = A} (function_gives on.env.now f) on.env.now (with_own g) r (Err why) → Generates {A = B} (nested_gives on) on.env.now g r (Err why)
+    unfolding generate_nested with_names
+    inner_refused x =
         let k = x.keeps in
-        let d = k.fewer in
         record {
           keeps = record {
+            same = k.same;
             len = k.len;
+            lo = k.lo;
+            stack = k.stack;
             grows = k.grows;
             below = k.below;
-            names = k.names;
-            entries = k.entries;
+            logged = k.logged;
+            beyond = k.beyond;
             fewer = k.fewer;
-            log_grows = omega arith;
-            pays = λ z. let p = k.pays z in record { spent = p.spent; made = p.made; noted = omega arith; counted = p.counted };
+            log_grows = k.log_grows;
+            pays = tt;
           };
+          means = λ σ ns good logged. rw e (x.means σ [] good (none_logged refl));
+        }
+
+    -- or done, and what it logged is forgotten
+    pub inner_done : {A B : Type 0} {x : A} (y : B) → Ready on.env.now g → Generates (function_gives on.env.now f) on.env.now (with_own g) r (Ok x)
+        → Generates (nested_gives on) on.env.now g (with_names_of g r) (Ok y)
+    unfolding generate_nested with_names
+    inner_done y a x =
+        let k = x.keeps in
+        let p = k.pays in
+        let d = k.fewer in
+        let kept : WalkKeeps g (with_names_of g r) (Ok y) = record {
+          same = k.same;
+          len = k.len;
+          lo = k.lo;
+          stack = k.stack;
+          grows = k.grows;
+          below = k.below;
+          logged = k.logged;
+          beyond = k.beyond;
+          fewer = k.fewer;
+          log_grows = omega arith;
+          pays = record { spent = p.spent; made = p.made; noted = omega arith; counted = p.counted; names = refl };
+        } in
+        record {
+          keeps = kept;
           means = λ σ ns good logged.
-              let y = x.means σ [] good (none_logged refl) in
-              record {
-                finished = λ z. let q = y.finished z in (q.0, q.1, q.2, logged_same (λ j a b. k.names j (omega arith) b) logged, q.4);
-                counts = y.counts;
-                ended = y.ended;
-              };
-        };
-  }
+              let z = x.means σ [] good (none_logged refl) in
+              rw e (record { log = z.log; is = z.is; good = z.good; logged = logged_on a kept logged refl; slots = z.slots; counts = z.counts });
+        }
 
--- what an instruction gives
-abbrev given : (img bytes : List ℕ) (at : ℕ) → NamesLog → ℕ → Generated
-given img bytes at ns k = generate_instruction (program img bytes) (generate_for (program img bytes)) ns k (instruction_at img at)
+-- an instruction's own equations
+abbrev own_gives : Instruction → NamesLog → ℕ → Generated
+own_gives on ns k = generate_instruction_types (program_of on.env.now) ns k (instruction_in on) (kind_of (instruction_in on))
 
-after : (img bytes : List ℕ) (at : ℕ) (o : Option ℕ) → nested (instruction_at img at) ≡ o → (ns : NamesLog) (k : ℕ)
-    → followed_by (generate_nested (program img bytes) (generate_for (program img bytes)) ns k o) (own img bytes at) ≡ given img bytes at ns k
-unfolding generate_instruction
-after img bytes at o e ns k = ap (λ (o : Option ℕ). followed_by (generate_nested (program img bytes) (generate_for (program img bytes)) ns k o) (own img bytes at)) (sym e)
+-- an instruction, in the words of its function
+module _ (on : Instruction) {env : Env} {at : ℕ} (there : on.env.now ≡ env) (here : on.at ≡ at) {g : Walk} where
+  instruction_as : {A : Type 0} {r : Walk} {o : Result A Refusal} → Generates (instruction_gives on.env.now on.at) on.env.now g r o → Generates (instruction_gives env at) env g r o
+  instruction_as {r = r} {o} x =
+      subst (λ (v : Env). Generates (instruction_gives v at) v g r o) there (subst (λ (k : ℕ). Generates (instruction_gives on.env.now k) on.env.now g r o) here x)
 
-module _ {img bytes w w₁ : List ℕ} {lay : Layout} {stretch : ℕ} {g g₁ : Walk} (at : ℕ) where
-  -- an instruction that names a function: it is refused there
-  pub instruction_stopped : {f : ℕ} → nested (instruction_at img at) ≡ some f → Ready img bytes w lay stretch g → GeneratesInner img bytes w w₁ lay f g g₁ → (g₁.refused ≡ 0 → ⊥)
-      → Generates (given img bytes at) img bytes w w₁ lay stretch g g₁
-  unfolding generate_nested
-  instruction_stopped {f} e a x z = generates_same (λ ns. after img bytes at (some f) e ns g.next) (generates_stopped (own img bytes at) (x.over stretch a.opened) z)
+  -- it is refused at the function that it names
+  pub instruction_refused : {A B : Type 0} {r : Walk} {why : Refusal} → Generates {A = A} (nested_gives on) on.env.now g r (Err why) → Generates {A = B} (instruction_gives env at) env g r (Err why)
+  unfolding generate_instruction
+  instruction_refused x = instruction_as (generates_stopped (own_gives on) x)
 
-  -- or done
-  pub instruction_inner : {f : ℕ} {w₂ : List ℕ} {g₂ : Walk} → nested (instruction_at img at) ≡ some f → Ready img bytes w lay stretch g → GeneratesInner img bytes w w₁ lay f g g₁ → g₁.refused ≡ 0
-      → Generates (own img bytes at) img bytes w₁ w₂ lay stretch g₁ g₂ → Generates (given img bytes at) img bytes w w₂ lay stretch g g₂
-  unfolding generate_nested
-  instruction_inner {f} e a x z y = generates_same (λ ns. after img bytes at (some f) e ns g.next) (generates_then (x.over stretch a.opened) z y)
+  -- that, then its own equations
+  pub instruction_done : {A B : Type 0} {r q : Walk} {x : A} (o : Result B Refusal) → Generates (nested_gives on) on.env.now g r (Ok x) → Generates (own_gives on) on.env.now r q o
+      → Generates (instruction_gives env at) env g q o
+  unfolding generate_instruction
+  instruction_done o x y = instruction_as (generates_then o x y)
 
-  -- one that names none
-  pub instruction_plain : nested (instruction_at img at) ≡ none → Generates (own img bytes at) img bytes w w₁ lay stretch g g₁ → Generates (given img bytes at) img bytes w w₁ lay stretch g g₁
-  unfolding generate_nested only followed_by
-  instruction_plain e y = generates_same (λ ns. after img bytes at none e ns g.next) y
+-- a block lies in the image
+module _ {img : List ℕ} {f at : ℕ} (b : BlockFits img f at) where
+  pub block_end : terminal_place img at + 2 ≤ length img
+  unfolding after_block
+  block_end = b.inside
 
--- what an instruction's own equations ask
-pub instruction_ready : {img bytes w : List ℕ} {lay : Layout} {stretch f at : ℕ} {g : Walk} → InstructionOfFits img f at → Ready img bytes w lay stretch g → ReadyAt img bytes w lay stretch g at 0
-instruction_ready p a = record { ready = a; fits = p.fits; many = omega arith }
-
--- after the function that it names
-pub inner_ready : {img bytes w w₁ : List ℕ} {lay : Layout} {stretch f : ℕ} {g g₁ : Walk} → Ready img bytes w lay stretch g → GeneratesInner img bytes w w₁ lay f g g₁ → g₁.refused ≡ 0
-    → Ready img bytes w₁ lay stretch g₁
-inner_ready {stretch = stretch} a x z = ready_on a (x.over stretch a.opened) z
-
--- what a block asks of the image: its places are in this order
-pub record BlockPlaces (img : List ℕ) (at : ℕ) : Type 0 where
-  pub phis : at < count_place img at
-  pub instructions : count_place img at + 3 ≤ length img
-
-pub block_places : {img : List ℕ} {f at : ℕ} → BlockFits img f at → BlockPlaces img at
-unfolding after_block
-block_places {img} {f} {at} b = record { phis = omega (arith, count_place_least img at); instructions = omega (arith, b.inside, terminal_place_least img at) }
-
--- where a block ends
-pub block_inside : {img : List ℕ} {f at j : ℕ} → BlockFits img f at → j ≡ terminal_place img at → (j + 2 ≤ length img) × (j + 2 ≡ after_block img at)
-unfolding after_block
-block_inside b e = (omega (arith, b.inside), ap (λ (k : ℕ). k + 2) e)
-
--- its instructions
-pub block_instructions : {img : List ℕ} {f at j : ℕ} → BlockFits img f at → j ≡ count_place img at → InstructionsFit img f (j + 1) (word img j)
-block_instructions b e = rw e b.instructions
-
-module _ {img bytes w w₁ : List ℕ} {lay : Layout} {stretch : ℕ} {g g₁ : Walk} (at : ℕ) (a : Ready img bytes w lay stretch g) (x : SolvesPhis img w w₁ lay (at + 1) (word img at) g g₁) where
-  phis_first : Generates (only (map (phi_equation (program img bytes)) (phis_at img (at + 1) (word img at)))) img bytes w w₁ lay stretch g g₁
-  phis_first = generates_only a (x.solves.solves bytes)
-
-  abbrev then_instructions : NamesLog → ℕ → Generated
-  then_instructions ns k = generate_instructions (program img bytes) (generate_for (program img bytes)) ns k (instructions_at img (count_place img at + 1) (word img (count_place img at)))
-
-  abbrev BlockDone : List ℕ → Walk → Type 0
-  BlockDone w₂ g₂ = GeneratesTo (terminal_place img at) (λ ns k. generate_block (program img bytes) (generate_for (program img bytes)) ns k (block_at img at)) img bytes w w₂ lay stretch g g₂
-
-  -- a block that is refused at a phi
-  pub block_stopped : (g₁.refused ≡ 0 → ⊥) → BlockDone w₁ g₁
-  unfolding generate_block block_at
-  block_stopped z = record { generates = generates_stopped then_instructions phis_first z; lands = λ e. absurd (z e) }
-
-  module _ (z : g₁.refused ≡ 0) where
-    -- where the walk stands then
-    pub phis_land : g₁.at ≡ count_place img at
+  -- where its instruction count is
+  module _ {j : ℕ} (e : j ≡ after_phis img (at + 1) (word img at)) where
+    is_count : count_place img at ≡ j
     unfolding count_place
-    phis_land = x.lands z
+    is_count = sym e
 
-    -- after its phis
-    pub block_ready : Ready img bytes w₁ lay stretch g₁
-    block_ready = ready_on a phis_first z
+    pub block_lies : (at < j) × (j + 3 ≤ length img)
+    block_lies = omega (arith, is_count, block_end, count_place_least img at, terminal_place_least img at)
 
-    -- a block
-    pub block_done : {w₂ : List ℕ} {g₂ : Walk} {j : ℕ} → j ≡ count_place img at
-        → GeneratesTo (after_instructions img (j + 1) (word img j)) (λ ns k. generate_instructions (program img bytes) (generate_for (program img bytes)) ns k (instructions_at img (j + 1) (word img j))) img bytes w₁ w₂ lay stretch g₁ g₂
-        → BlockDone w₂ g₂
-    unfolding generate_block block_at terminal_place
-    block_done {w₂} {g₂} e y =
-        let d = subst (λ (j : ℕ). GeneratesTo (after_instructions img (j + 1) (word img j)) (λ ns k. generate_instructions (program img bytes) (generate_for (program img bytes)) ns k (instructions_at img (j + 1) (word img j))) img bytes w₁ w₂ lay stretch g₁ g₂) e y in
-        record { generates = generates_then phis_first z d.generates; lands = d.lands }
+    pub block_instructions : InstructionsFit img f (j + 1) (word img j)
+    block_instructions = subst (λ (k : ℕ). InstructionsFit img f (k + 1) (word img k)) is_count b.instructions
 
-module _ {img bytes : List ℕ} {budget : ℕ} (p : Passed img bytes budget) {f : ℕ} (l : f < count Functions img) where
+module _ {env : Env} (at : ℕ) {g r : Walk} where
+  -- a block is refused at a phi
+  pub block_refused : {A : Type 0} {why : Refusal} → Generates {A = A} (phis_give env (at + 1) (word env.image.now at)) env g r (Err why)
+      → GeneratesTo (terminal_place env.image.now at) (block_gives env at) env g r (Err why)
+  unfolding generate_block block_at
+  block_refused x = nowhere (generates_stopped (instructions_give env (count_place env.image.now at + 1) (word env.image.now (count_place env.image.now at))) x)
+
+  -- phis, then instructions
+  pub block_done : {A : Type 0} {q : Walk} {x : A} {j : ℕ} (o : Result ℕ Refusal) → j ≡ after_phis env.image.now (at + 1) (word env.image.now at)
+      → Generates (phis_give env (at + 1) (word env.image.now at)) env g r (Ok x)
+      → GeneratesTo (after_instructions env.image.now (j + 1) (word env.image.now j)) (instructions_give env (j + 1) (word env.image.now j)) env r q o
+      → GeneratesTo (terminal_place env.image.now at) (block_gives env at) env g q o
+  unfolding generate_block block_at terminal_place count_place
+  block_done {q = q} o e x y =
+      let z = subst (λ (k : ℕ). GeneratesTo (after_instructions env.image.now (k + 1) (word env.image.now k)) (instructions_give env (k + 1) (word env.image.now k)) env r q o) e y in
+      record { generates = generates_then o x z.generates; lands = z.lands }
+
+-- the parts of a function
+abbrev component_part : (env : Env) (at : ℕ) → NamesLog → ℕ → Generated
+component_part env at = only (component_equations (program_of env) (body_from env.image.now at))
+
+abbrev blocks_part : (env : Env) (at : ℕ) → NamesLog → ℕ → Generated
+blocks_part env at = blocks_give env (blocks_place env.image.now at + 1) (word env.image.now (blocks_place env.image.now at))
+
+abbrev returns_part : (env : Env) (f at : ℕ) → NamesLog → ℕ → Generated
+returns_part env f at = only (return_equations (program_of env) (place_type env.image.now (at + 1)) (returned_by env.image.now f))
+
+abbrev parts : (env : Env) (f at : ℕ) → NamesLog → ℕ → Generated
+parts env f at ns k = followed_by (component_part env at ns k) (λ ns k. followed_by (blocks_part env at ns k) (returns_part env f at))
+
+module _ {env : Env} {g : Walk} (a : Ready env g) {f : ℕ} (l : f < count Functions env.image.now) where
   -- what a function gives, by its body
-  for_is : (k : ℕ) → generate_for (program img bytes) f k ≡ generate_function (program img bytes) (generate_for (program img bytes)) (body_from img (cell Functions img f 0)) k
+  for_is : (k : ℕ) → generate_for (program_of env) f k ≡ generate_function (program_of env) (generate_for (program_of env)) (body_from env.image.now (cell Functions env.image.now f 0)) k
   unfolding generate_for
   for_is k =
-      let c = checked p in
-      let e = functions_length img bytes c in
-      ap (λ (h : ℕ → Generated). h k) (generate_unfold (scoped_program img bytes c).named (length (program img bytes).functions) f (omega arith) (omega arith))
-      ∙ ap (λ (b : Body). generate_function (program img bytes) (generate_for (program img bytes)) b k) (body_read p l)
+      let c = checked a.passed in
+      let e = functions_length env.image.now env.names.now c in
+      ap (λ (h : ℕ → Generated). h k) (generate_unfold (scoped_program env.image.now env.names.now c).named (length (program_of env).functions) f (omega arith) (omega arith))
+      ∙ ap (λ (b : Body). generate_function (program_of env) (generate_for (program_of env)) b k) (body_read a.passed l)
 
   -- its own type
-  returns_is : get_type (program img bytes) (word img (cell Functions img f 0 + 1)) ≡ place_type img (cell Functions img f 0 + 1)
+  returns_is : get_type (program_of env) (word env.image.now (cell Functions env.image.now f 0 + 1)) ≡ place_type env.image.now (cell Functions env.image.now f 0 + 1)
   unfolding get_type place_type
-  returns_is = rw (slot_is img bytes (word img (cell Functions img f 0 + 1)) (body_fits p l).returns)
+  returns_is = rw (slot_is env.image.now env.names.now (word env.image.now (cell Functions env.image.now f 0 + 1)) (body_fits a.passed l).returns)
 
--- its parts
-abbrev component_part : (img bytes : List ℕ) (at : ℕ) → NamesLog → ℕ → Generated
-component_part img bytes at = only (component_equations (program img bytes) (body_from img at))
+  module _ {at : ℕ} (here : at ≡ cell Functions env.image.now f 0) where
+    parts_are : (k : ℕ) → parts env f at [] k ≡ generate_for (program_of env) f k
+    unfolding generate_function returned_by body_from
+    parts_are k =
+        rw here
+        (sym (for_is k
+        ∙ ap (λ (t : Ty). followed_by (component_part env (cell Functions env.image.now f 0) [] k) (λ ns k. followed_by (blocks_part env (cell Functions env.image.now f 0) ns k) (only (return_equations (program_of env) t (returned_by env.image.now f))))) returns_is))
 
-abbrev blocks_part : (img bytes : List ℕ) (at : ℕ) → NamesLog → ℕ → Generated
-blocks_part img bytes at ns k = generate_blocks (program img bytes) (generate_for (program img bytes)) ns k (blocks_at img (blocks_place img at + 1) (word img (blocks_place img at)))
+    -- the body fits
+    the_body : BodyFits env.image.now f at
+    the_body = rw here (body_fits a.passed l)
 
-abbrev returns_part : (img bytes : List ℕ) (f at : ℕ) → NamesLog → ℕ → Generated
-returns_part img bytes f at = only (return_equations (program img bytes) (place_type img (at + 1)) (returned_by img f))
+    pub params_lie : at + 2 + 1 + 2 * word env.image.now (at + 2) ≤ length env.image.now
+    params_lie = omega (arith, the_body.params.inside)
 
-abbrev parts : (img bytes : List ℕ) (f at : ℕ) → NamesLog → ℕ → Generated
-parts img bytes f at ns k = followed_by (component_part img bytes at ns k) (λ ns k. followed_by (blocks_part img bytes at ns k) (returns_part img bytes f at))
+    -- what its parameters ask, and its returns
+    pub component_asked : ComponentAsked env.image.now at
+    component_asked = record { inside = omega (arith, params_lie); params = the_body.params }
 
--- what the outermost function asks
-pub outermost_ready : {img bytes w : List ℕ} {lay : Layout} {g : Walk} → Ready img bytes w lay g.log g → FunctionReady img bytes w lay g 0
-outermost_ready {img} {bytes} a = record { ready = a; function = some_function img bytes (checked a.passed) }
+    pub returns_asked : FunctionAsked env.image.now f at
+    returns_asked = record { function = l; body = here; fits = the_body }
 
-module _ {img bytes w : List ℕ} {lay : Layout} {f : ℕ} {g : Walk} {at : ℕ} (a : FunctionReady img bytes w lay g f) (here : at ≡ cell Functions img f 0) where
-  parts_are : (k : ℕ) → parts img bytes f at [] k ≡ generate_for (program img bytes) f k
-  unfolding generate_function returned_by body_from
-  parts_are k =
-      rw here
-      (sym (for_is a.ready.passed a.function k
-      ∙ ap (λ (t : Ty). followed_by (component_part img bytes (cell Functions img f 0) [] k) (λ ns k. followed_by (blocks_part img bytes (cell Functions img f 0) ns k) (only (return_equations (program img bytes) t (returned_by img f))))) (returns_is a.ready.passed a.function)))
+    module _ {c : ℕ} (q : c ≡ at + 2 + 1 + 2 * word env.image.now (at + 2)) where
+      is_context : context_place env.image.now at ≡ c
+      unfolding context_place
+      is_context = omega arith
 
-  -- the parts are the function
-  whole : {w' : List ℕ} {r : Walk} → Generates (parts img bytes f at) img bytes w w' lay g.log g r → Generates (λ ns k. generate_for (program img bytes) f k) img bytes w w' lay g.log g r
-  whole {w'} {r} x = record {
-    keeps = x.keeps;
-    means = λ σ ns good logged.
-        subst (Ran img bytes w' lay g.log g r σ)
-        (ap (λ (ns : NamesLog). parts img bytes f at ns g.next) (nothing_logged logged refl) ∙ parts_are g.next)
-        (x.means σ ns good logged);
-  }
+      pub context_lies : c + 1 + 1 * word env.image.now c ≤ length env.image.now
+      context_lies = omega (arith, rw is_context at the_body.context.inside)
 
-  -- the body fits
-  function_fits : BodyFits img f at
-  function_fits = rw here (body_fits a.ready.passed a.function)
+      module _ {b : ℕ} (t : b ≡ c + 1 + 1 * word env.image.now c) where
+        is_blocks : blocks_place env.image.now at ≡ b
+        unfolding blocks_place
+        is_blocks = ap (λ (k : ℕ). k + 1 + word env.image.now k) is_context ∙ omega arith
 
-  -- where its rows of parameters end, and those of its context
-  pub record FunctionPlaces : Type 0 where
-    pub params : at + 2 + 1 + 2 * word img (at + 2) < length img
-    pub context : {c : ℕ} → c ≡ at + 2 + 1 + 2 * word img (at + 2) → c + 1 + 1 * word img c < length img
-    pub blocks : {b c : ℕ} → c ≡ at + 2 + 1 + 2 * word img (at + 2) → b ≡ c + 1 + 1 * word img c → (b ≡ blocks_place img at) × (b < length img)
+        pub blocks_lie : b < length env.image.now
+        blocks_lie = omega (arith, is_blocks, the_body.places)
 
-  pub function_places : FunctionPlaces
-  unfolding context_place blocks_place
-  function_places =
-      let p = function_fits.places in
-      let same : (c : ℕ) → c ≡ at + 2 + 1 + 2 * word img (at + 2) → c ≡ context_place img at = λ c e. omega arith in
-      record {
-        params = omega arith;
-        context = λ {c} e. rw (same c e) (omega arith);
-        blocks = λ {b} {c} e q. let d = rw (same c e) at q in (omega arith, omega arith);
+        pub blocks_fit : BlocksFit env.image.now f (b + 1) (word env.image.now b)
+        blocks_fit = subst (λ (k : ℕ). BlocksFit env.image.now f (k + 1) (word env.image.now k)) is_blocks the_body.blocks
+
+        blocks_then : {A : Type 0} {r q : Walk} {o : Result A Refusal} → Generates (blocks_give env (b + 1) (word env.image.now b)) env r q o → Generates (blocks_part env at) env r q o
+        blocks_then {r = r} {q} {o} y = subst (λ (k : ℕ). Generates (blocks_give env (k + 1) (word env.image.now k)) env r q o) (sym is_blocks) y
+
+    -- with a stretch of the names log of its own
+    module _ (own : g.names ≡ g.log) where
+      -- the parts are the function
+      whole : {A : Type 0} {r : Walk} {o : Result A Refusal} → Generates (parts env f at) env g r o → Generates (function_gives env f) env g r o
+      whole {r = r} {o} x = record {
+        keeps = x.keeps;
+        means = λ σ ns good logged.
+            subst (Ran env g r o σ)
+            (ap (λ (ns : NamesLog). parts env f at ns g.next) (nothing_logged logged (sym own)) ∙ parts_are g.next)
+            (x.means σ ns good logged);
       }
 
-  -- what its parameters ask
-  pub component_asked : ComponentAsked img at
-  component_asked = let p = function_places.params in record { inside = omega arith; params = function_fits.params }
+      module _ {A : Type 0} {r : Walk} where
+        -- refused at a parameter
+        pub component_refused : {B : Type 0} {why : Refusal} → SolvesBy {A = A} (λ bytes. component_equations (program env.image.now bytes) (body_from env.image.now at)) g r (Err why)
+            → Generates {A = B} (function_gives env f) env g r (Err why)
+        component_refused {why = why} x =
+            whole (generates_stopped (λ ns k. followed_by (blocks_part env at ns k) (returns_part env f at)) (generates_only a (Err why) (x.solves env.names.now)))
 
-  -- what its returns ask
-  pub returns_asked : FunctionAsked img f at
-  returns_asked = record { function = a.function; body = here; fits = function_fits }
+        module _ {v : A} (x : SolvesBy (λ bytes. component_equations (program env.image.now bytes) (body_from env.image.now at)) g r (Ok v)) where
+          component_first : Generates (component_part env at) env g r (Ok v)
+          component_first = generates_only a (Ok v) (x.solves env.names.now)
 
-  -- what its blocks are
-  pub blocks_fit : {b : ℕ} → b ≡ blocks_place img at → BlocksFit img f (b + 1) (word img b)
-  blocks_fit e = rw e function_fits.blocks
+          -- after the parameters
+          pub blocks_ready : Ready env r
+          blocks_ready = ready_on a component_first
 
-  module _ {w₁ : List ℕ} {g₁ : Walk} (x : SolvesBy (λ bytes. component_equations (program img bytes) (body_from img at)) w w₁ lay g g₁) where
-    component_first : Generates (component_part img bytes at) img bytes w w₁ lay g.log g g₁
-    component_first = generates_only a.ready (x.solves bytes)
+          module _ {c b : ℕ} (s : c ≡ at + 2 + 1 + 2 * word env.image.now (at + 2)) (t : b ≡ c + 1 + 1 * word env.image.now c) {B : Type 0} {q : Walk} where
+            -- refused in a block
+            pub blocks_refused : {C : Type 0} {why : Refusal} → Generates {A = B} (blocks_give env (b + 1) (word env.image.now b)) env r q (Err why)
+                → Generates {A = C} (function_gives env f) env g q (Err why)
+            blocks_refused {why = why} y = whole (generates_then (Err why) component_first (generates_stopped (returns_part env f at) (blocks_then s t y)))
 
-    -- refused at a parameter
-    pub function_stopped : (g₁.refused ≡ 0 → ⊥) → Generates (λ ns k. generate_for (program img bytes) f k) img bytes w w₁ lay g.log g g₁
-    function_stopped z = whole (generates_stopped (λ ns k. followed_by (blocks_part img bytes at ns k) (returns_part img bytes f at)) component_first z)
+            module _ {u : B} (y : Generates (blocks_give env (b + 1) (word env.image.now b)) env r q (Ok u)) where
+              -- after the blocks
+              pub returns_ready : Ready env q
+              returns_ready = ready_on blocks_ready y
 
-    module _ (z : g₁.refused ≡ 0) where
-      -- after the parameters
-      pub function_ready : Ready img bytes w₁ lay g₁.log g₁
-      function_ready = ready_own (ready_on a.ready component_first z)
-
-      module _ {w₂ : List ℕ} {g₂ : Walk} {b : ℕ} (there : b ≡ blocks_place img at)
-          (y : Generates (λ ns k. generate_blocks (program img bytes) (generate_for (program img bytes)) ns k (blocks_at img (b + 1) (word img b))) img bytes w₁ w₂ lay g₁.log g₁ g₂) where
-        blocks_then : Generates (blocks_part img bytes at) img bytes w₁ w₂ lay g.log g₁ g₂
-        blocks_then =
-            subst (λ (s : ℕ). Generates (blocks_part img bytes at) img bytes w₁ w₂ lay s g₁ g₂) (x.solves bytes).log_same
-            (subst (λ (b : ℕ). Generates (λ ns k. generate_blocks (program img bytes) (generate_for (program img bytes)) ns k (blocks_at img (b + 1) (word img b))) img bytes w₁ w₂ lay g₁.log g₁ g₂) there y)
-
-        -- refused in a block
-        pub function_broken : (g₂.refused ≡ 0 → ⊥) → Generates (λ ns k. generate_for (program img bytes) f k) img bytes w w₂ lay g.log g g₂
-        function_broken z₂ = whole (generates_then component_first z (generates_stopped (returns_part img bytes f at) blocks_then z₂))
-
-        module _ (z₂ : g₂.refused ≡ 0) where
-          -- after the blocks
-          pub blocks_ready : Ready img bytes w₂ lay g.log g₂
-          blocks_ready = ready_on (ready_on a.ready component_first z) blocks_then z₂
-
-          -- the whole function
-          pub function_done : {w₃ : List ℕ} {g₃ : Walk} → SolvesBy (λ bytes. return_equations (program img bytes) (place_type img (at + 1)) (returned_by img f)) w₂ w₃ lay g₂ g₃
-              → Generates (λ ns k. generate_for (program img bytes) f k) img bytes w w₃ lay g.log g g₃
-          function_done q = whole (generates_then component_first z (generates_then blocks_then z₂ (generates_only blocks_ready (q.solves bytes))))
+              -- the whole function
+              pub function_done : {C : Type 0} {p : Walk} (o : Result C Refusal)
+                  → SolvesBy (λ bytes. return_equations (program env.image.now bytes) (place_type env.image.now (at + 1)) (returned_by env.image.now f)) q p o
+                  → Generates (function_gives env f) env g p o
+              function_done o z = whole (generates_then o component_first (generates_then o (blocks_then s t y) (generates_only returns_ready o (z.solves env.names.now))))

@@ -1,36 +1,44 @@
--- `generate` over a whole function: what its parts ask and promise. Assumes nothing.
-use Rattle.std.specs.Prelude.{ℕ, ◌+◌, ◌≤◌, ◌<◌, ◌≡◌, List, [], map, length}
-use Rattle.image.specs.declared.Table.TheVariants.{Functions}
-use Rattle.image.specs.Image.{word, count, cell}
-use Rattle.image.specs.Program.{Program, function_of, to_depth, program}
-use Rattle.run_definition.specs.Equations.{Generated}
-use Rattle.run_definition.specs.Generate.{only, with_names, phi_equation, generate_function}
-use Rattle.run_definition.specs.Position.{phis_at, after_phis}
-use Rattle.run_walk.specs.Solving.{SolvesBy}
-use Rattle.run_walk.specs.Running.{Ready, Generates}
-use Rattle.run_definition.specs.Fitting.{PlaceFits}
-use Rattle.run_layout.specs.declared.Layout.{Layout}
-use Rattle.run_walk.specs.declared.Walk.{Walk}
+-- `generate` over a whole function: what its parts give, by where they stand. Assumes nothing.
+use Rattle.std.specs.Prelude.{ℕ, [], map, length}
+use Rattle.image.specs.Body.{nested}
+use Rattle.image.specs.Program.{Program, function_of, to_depth}
+use Rattle.run_definition.specs.Equations.{NamesLog, Generated}
+use Rattle.run_definition.specs.Generate.{only, phi_equation, generate_nested, generate_instruction, generate_instructions, generate_block, generate_blocks, generate_function}
+use Rattle.run_definition.specs.Position.{instruction_at, instructions_at, phis_at, block_at, blocks_at}
+use Rattle.run_reading.specs.declared.env.Env.{Env}
+use Rattle.run_reading.specs.declared.instruction.Instruction.{Instruction}
+use Rattle.run_walk.specs.Solving.{instruction_in}
+use Rattle.run_walk.specs.Running.{program_of}
 
 -- `generate_for_function_id`: what a function gives, and all inside it, from so many slots on
 unfoldable pub generate_for : Program → ℕ → ℕ → Generated
 generate_for p f slots = to_depth (only [] []) (λ inner g. generate_function p inner (function_of p g)) (length p.functions) f slots
 
--- what a FunctionExpression's own equation asks: a function, whose returns identifier is the second word of its body
-pub record ExpressionFits (img : List ℕ) (at : ℕ) : Type 0 where
-  pub function : word img (at + 2) < count Functions img
-  pub returns : PlaceFits img (cell Functions img (word img (at + 2)) 0 + 1)
+-- what the function that an instruction names gives, with the names log of the function around it
+abbrev pub nested_gives : Instruction → NamesLog → ℕ → Generated
+nested_gives on ns k = let p = program_of on.env.now in generate_nested p (generate_for p) ns k (nested (instruction_in on))
 
--- what a function asks: that there is one, and a stretch of the names log of its own
-pub record FunctionReady (img bytes w : List ℕ) (lay : Layout) (g : Walk) (f : ℕ) : Type 0 where
-  pub ready : Ready img bytes w lay g.log g
-  pub function : f < count Functions img
+-- what a function gives
+abbrev pub function_gives : Env → ℕ → NamesLog → ℕ → Generated
+function_gives env f ns k = generate_for (program_of env) f k
 
--- the promise of an inner function: what it logs is forgotten, over any stretch of the names log
-pub record GeneratesInner (img bytes w w' : List ℕ) (lay : Layout) (f : ℕ) (g r : Walk) : Type 0 where
-  pub over : (stretch : ℕ) → lay.log ≤ stretch → Generates (λ ns k. with_names ns (generate_for (program img bytes) f k)) img bytes w w' lay stretch g r
+module _ (env : Env) where
+  -- the parts of a function: an instruction
+  abbrev pub instruction_gives : ℕ → NamesLog → ℕ → Generated
+  instruction_gives at ns k = generate_instruction (program_of env) (generate_for (program_of env)) ns k (instruction_at env.image.now at)
 
--- the promise of n phis from a position on, after which the walk stands
-pub record SolvesPhis (img w w' : List ℕ) (lay : Layout) (at n : ℕ) (g r : Walk) : Type 0 where
-  pub solves : SolvesBy (λ bytes. map (phi_equation (program img bytes)) (phis_at img at n)) w w' lay g r
-  pub lands : r.refused ≡ 0 → r.at ≡ after_phis img at n
+  -- n instructions
+  abbrev pub instructions_give : (at n : ℕ) → NamesLog → ℕ → Generated
+  instructions_give at n ns k = generate_instructions (program_of env) (generate_for (program_of env)) ns k (instructions_at env.image.now at n)
+
+  -- n phis
+  abbrev pub phis_give : (at n : ℕ) → NamesLog → ℕ → Generated
+  phis_give at n = only (map (phi_equation (program_of env)) (phis_at env.image.now at n))
+
+  -- a block
+  abbrev pub block_gives : ℕ → NamesLog → ℕ → Generated
+  block_gives at ns k = generate_block (program_of env) (generate_for (program_of env)) ns k (block_at env.image.now at)
+
+  -- n blocks
+  abbrev pub blocks_give : (at n : ℕ) → NamesLog → ℕ → Generated
+  blocks_give at n ns k = generate_blocks (program_of env) (generate_for (program_of env)) ns k (blocks_at env.image.now at n)

@@ -1,4 +1,4 @@
+pub mod NameLogs
 pub mod Accessing
 pub mod Logging
-pub mod NameLogs
 pub mod Patterns

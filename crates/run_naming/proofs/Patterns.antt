@@ -1,36 +1,136 @@
 -- The items of a Destructure: its value, its pattern, and the equations of one item after another. Assumes nothing.
-use Prim.Native.Nat.{ℕ, zero, suc, ◌+◌, ◌-◌, ◌*◌, ◌≤◌, ◌<◌}
-use mathlib.Core.Path.{◌≡◌, refl, sym, ap, ◌∙◌, subst}
-use mathlib.Core.List.{List, [], ◌∷◌, ◌++◌, flat_map, append-nil, append_assoc}
-use native.Mathlib.Omega.{arith}
-use lib.ListN.{length}
+use Rattle.std.proofs.Common.{ℕ, zero, suc, ◌+◌, ◌-◌, ◌*◌, ◌≤◌, ◌<◌, arith, ◌≡◌, refl, sym, ap, ◌∙◌, subst, List, [], ◌∷◌, ◌++◌, length, Some, None, Result, Ok, Err}
+use Rattle.std.proofs.Math.ListN.{get_or}
+use mathlib.Core.List.{flat_map, append-nil, append_assoc}
 use borrow.Author.Tests.{ne_eqb}
 use Rattle.names.specs.Digits.{digits}
 use Rattle.image.specs.declared.Table.TheVariants.{Identifiers}
+use Rattle.image.specs.declared.refusal.Refusal.{Refusal}
+use Rattle.image.specs.declared.tags.Tag.{Tag}
+use Rattle.image.specs.declared.tags.Tag.TheVariants.{Place, Spread, Hole, NamedKey, ComputedKey, OtherKey, Attribute}
+use Rattle.image.specs.Tags.{word_of}
 use Rattle.image.specs.Ty.{Ty, var, object}
-use Rattle.image.specs.Image.{word, cell}
-use Rattle.image.specs.Laid.{Laid}
+use Rattle.image.specs.Image.{word, count, cell}
 use Rattle.image.specs.Kind.{Destructure}
 use Rattle.image.specs.Body.{Item, one_of}
-use Rattle.image.specs.Program.{program}
+use Rattle.image.specs.Program.{name_of}
 use Rattle.unifier_definition.specs.Property.{string}
-use Rattle.unifier_definition.specs.Unify.{Equation, ◌≐◌, ◌≐_property◌}
-use Rattle.unifier_properties.specs.Lookup.{key_name}
+use Rattle.unifier_definition.specs.Unify.{Equation, ◌≐◌}
+use Rattle.unifier_properties.specs.Lookup.{key_name, KeyInside}
 use Rattle.unifier_properties.specs.declared.Key.TheVariants.{String, Position}
 use Rattle.run_definition.specs.Items.{has_tag, pattern_items, value_item, concat_map_from}
-use Rattle.run_definition.specs.Equations.{NamesLog, when, get_type, access, array_equations, object_equations, destructure_equations, generate_instruction_types}
+use Rattle.run_definition.specs.Equations.{NamesLog, when, get_type, array_equations, object_equations, destructure_equations, generate_instruction_types}
 use Rattle.run_definition.specs.Generate.{only, followed_by}
-use Rattle.run_definition.specs.Position.{item_at, items_at, instruction_at, after_instruction}
-use Rattle.run_definition.specs.Fitting.{IdentifierAt}
-use Rattle.run_walk.specs.Solving.{place_type, EqualAsked, Equates}
-use Rattle.run_walk.specs.Running.{ReadyAt}
-use Rattle.run_naming.specs.Naming.{PropertyAsked, ElementAsked}
-use Rattle.run_layout.specs.declared.Layout.{Layout}
+use Rattle.run_definition.specs.Position.{item_at, items_at, instruction_at}
+use Rattle.run_reading.specs.Reading.{ItemIs}
+use Rattle.run_reading.specs.declared.instruction.Item.{Item as ItemRead}
+use Rattle.run_reading.specs.declared.instruction.Instruction.{Instruction}
+use Rattle.run_walk.specs.Solving.{place_type, item_count, EqualAsked, Equates}
+use Rattle.run_walk.specs.Running.{program_of, Ready, GeneratesAs}
 use Rattle.run_walk.specs.declared.Walk.{Walk}
-use Rattle.run_definition.proofs.PositionLaws.{items_length, slot_is, name_is}
+use Rattle.run_definition.proofs.PositionLaws.{items_length, name_is}
 use Rattle.run_definition.proofs.PositionsItems.{items_append}
-use Rattle.run_walk.proofs.Composing.{generates_only, ready_on, generates_same, generates_then, generates_stopped, generates_none, object_rep, place_rep}
-use Rattle.run_naming.proofs.Accessing.{Does, Runs, equal_asked, image_asked, access_same}
+use Rattle.run_walk.proofs.Composing.{generates_only, generates_same, generates_then, generates_stopped, generates_none}
+use Rattle.run_equations.specs.Parts.{item_in}
+use Rattle.run_naming.specs.Naming.{property_equation, Does, PropertyAsked, pattern_of, item_equations}
+use Rattle.run_naming.specs.declared.Pattern.{Pattern}
+use Rattle.run_naming.specs.declared.Pattern.TheVariants.{Array, Object}
+use Rattle.run_equations.proofs.Standing.{object_stands, operand_stands, equal_asks, equal_solves}
+use Rattle.run_equations.proofs.InstructionEquations.{get_type_at}
+use Rattle.run_naming.proofs.Accessing.{access_same, operand_fits}
+
+-- different tags have different words
+tag_of : ℕ → Tag
+tag_of w = get_or (Place ∷ Spread ∷ Hole ∷ NamedKey ∷ ComputedKey ∷ OtherKey ∷ []) w Attribute
+
+tag_of_word : (t : Tag) → tag_of (word_of t) ≡ t
+unfolding tag_of
+tag_of_word Place = refl
+tag_of_word Spread = refl
+tag_of_word Hole = refl
+tag_of_word NamedKey = refl
+tag_of_word ComputedKey = refl
+tag_of_word OtherKey = refl
+tag_of_word Attribute = refl
+
+other_word : {t u : Tag} → (t ≡ u → ⊥) → word_of t ≡ word_of u → ⊥
+other_word {t} {u} z e = z (sym (tag_of_word t) ∙ ap tag_of e ∙ tag_of_word u)
+
+-- item k of an instruction
+module _ (on : Instruction) {g : Walk} (a : Ready on.env.now g) {k : ℕ} (l : k < item_count on) {item : ItemRead} (i : ItemIs on.env.now.image.now (on.at + 4 + 3 * k) item) where
+  tagged : {tag : Tag} → item.tag ≡ Some tag → word on.env.now.image.now (on.at + 4 + 3 * k) ≡ word_of tag
+  tagged q = sym (rw q at i.tag)
+
+  key_inside : item.tag ≡ Some NamedKey → KeyInside on.env.now.image.now (String item.key)
+  unfolding one_of
+  key_inside q = rw i.key ((on.fits.item k l).name (rw (tagged q)))
+
+  module _ {slot : ℕ} (e : slot ≡ cell Identifiers on.env.now.image.now (word on.env.now.image.now (on.at + 5 + 3 * k)) 0) where
+    item_var : var slot ≡ get_type (program_of on.env.now) (item_in on k).id
+    unfolding item_at place_type
+    item_var =
+        ap var e
+        ∙ sym (get_type_at on.env.now.image.now on.env.now.names.now (on.at + 5 + 3 * k) (operand_fits on k l))
+        ∙ ap (λ (j : ℕ). get_type (program_of on.env.now) (word on.env.now.image.now j)) (omega arith)
+
+    -- what a spread and a key with a name ask
+    pub spread_asked : {y : ℕ} → y ≡ on.env.now.lay.own + 6 + 12 → EqualAsked g slot y
+    spread_asked y = equal_asks a.solving (operand_stands on k l e) (object_stands 4 (omega arith) y)
+
+    pub named_asked : {value : ℕ} → item.tag ≡ Some NamedKey → value < count Identifiers on.env.now.image.now → PropertyAsked on.env.now g slot value (String item.key)
+    named_asked q v =
+        let s = a.solving.slot_inside (word on.env.now.image.now (on.at + 5 + 3 * k)) (operand_fits on k l) in
+        record { ready = a; slot_inside = omega arith; id_inside = v; key_inside = key_inside q }
+
+    -- what it gives
+    module _ (pattern : Pattern) (value : ℕ) where
+      abbrev Gives : (r : Walk) → Result (Unit {0}) Refusal → Type 0
+      Gives r o = Does (λ ns. item_equations on.env.now ns pattern value k (item_in on k)) on.env.now g r o
+
+      pub place_gives : {r : Walk} → pattern ≡ Array → item.tag ≡ Some Place → (o : Result (Unit {0}) Refusal) → Does (λ ns. property_equation on.env.now ns slot value (Position k) ∷ []) on.env.now g r o → Gives r o
+      unfolding item_equations array_equations when has_tag item_at key_name
+      place_gives p q o f =
+          generates_same o
+          (λ ns. rw (p, item_equations, tagged q) (access_same (program_of on.env.now) ns g.next {n = string (digits k)} {n' = string (digits k)} item_var refl refl))
+          f
+
+      pub spread_gives : {r : Walk} {y : ℕ} → pattern ≡ Array → item.tag ≡ Some Spread → y ≡ on.env.now.lay.own + 6 + 12 → (o : Result (Unit {0}) Refusal) → Equates g slot y r o → Gives r o
+      unfolding item_equations array_equations when has_tag item_at place_type
+      spread_gives p q y o f =
+          generates_same o (λ ns. rw (p, item_equations, tagged q) (ap (λ (v : Ty). only (v ≐ object 4 ∷ []) ns g.next) (ap var (sym e) ∙ item_var)))
+          (generates_only a o (equal_solves a.solving (operand_stands on k l e) (object_stands 4 (omega arith) y) f))
+
+      pub named_gives : {r : Walk} → pattern ≡ Object → item.tag ≡ Some NamedKey → (o : Result (Unit {0}) Refusal) → Does (λ ns. property_equation on.env.now ns slot value (String item.key) ∷ []) on.env.now g r o
+          → Gives r o
+      unfolding item_equations object_equations when has_tag item_at key_name
+      named_gives p q o f =
+          let n = name_is on.env.now.image.now on.env.now.names.now item.key (key_inside q) in
+          generates_same o
+          (λ ns.
+          rw (p, item_equations, tagged q) (access_same (program_of on.env.now) ns g.next item_var refl (ap string (sym n ∙ ap (name_of (program_of on.env.now)) i.key))))
+          f
+
+      -- any other gives nothing
+      array_other : pattern ≡ Array → (word on.env.now.image.now (on.at + 4 + 3 * k) ≡ 0 → ⊥) → (word on.env.now.image.now (on.at + 4 + 3 * k) ≡ 1 → ⊥) → Gives g (Ok tt)
+      unfolding item_equations array_equations when has_tag item_at
+      array_other p x y = generates_same (Ok tt) (λ ns. rw (p, item_equations, ne_eqb _ 0 x, ne_eqb _ 1 y)) (generates_none tt)
+
+      object_other : pattern ≡ Object → (word on.env.now.image.now (on.at + 4 + 3 * k) ≡ 3 → ⊥) → Gives g (Ok tt)
+      unfolding item_equations object_equations when has_tag item_at
+      object_other p x = generates_same (Ok tt) (λ ns. rw (p, item_equations, ne_eqb _ 3 x)) (generates_none tt)
+
+      pub in_array_other : {tag : Tag} → pattern ≡ Array → item.tag ≡ Some tag → (tag ≡ Place → ⊥) → (tag ≡ Spread → ⊥) → Gives g (Ok tt)
+      in_array_other p q x y = array_other p (λ z. other_word x (sym (tagged q) ∙ z)) (λ z. other_word y (sym (tagged q) ∙ z))
+
+      pub in_object_other : {tag : Tag} → pattern ≡ Object → item.tag ≡ Some tag → (tag ≡ NamedKey → ⊥) → Gives g (Ok tt)
+      in_object_other p q x = object_other p (λ z. other_word x (sym (tagged q) ∙ z))
+
+      pub no_tag : item.tag ≡ None → Gives g (Ok tt)
+      no_tag q = go pattern refl
+        where
+          go : (p : Pattern) → pattern ≡ p → Gives g (Ok tt)
+          go Array p = array_other p (λ z. omega (arith, rw q at i.tag)) (λ z. omega (arith, rw q at i.tag))
+          go Object p = object_other p (λ z. omega (arith, rw q at i.tag))
 
 -- what numbered elements of two lists give
 concat_append : {A B : Type 0} (f : ℕ → A → List B) (k : ℕ) (xs ys : List A) → concat_map_from f k (xs ++ ys) ≡ concat_map_from f k xs ++ concat_map_from f (k + length xs) ys
@@ -73,174 +173,84 @@ module _ (img : List ℕ) where
     unfolding concat_map_from items_at
     items_next k = items_more k 1 ∙ ap (λ (zs : List Equation). concat_map_from f 0 (items_at img base k) ++ zs) (append-nil (f k (item_at img (base + 3 * k))))
 
--- the first k items are done
-pub record ItemsDone (f : NamesLog → ℕ → Item → List Equation) (img bytes w w' : List ℕ) (lay : Layout) (stretch base k : ℕ) (g r : Walk) : Type 0 where
-  pub running : r.refused ≡ 0
-  pub generates : Does (λ ns. concat_map_from (f ns) 0 (items_at img base k)) img bytes w w' lay stretch g r
+-- a Destructure with this pattern and value
+module _ (on : Instruction) (pattern : Pattern) (value : ℕ) where
+  -- the equations of item k, and of the first k
+  abbrev one : ℕ → NamesLog → List Equation
+  one k ns = item_equations on.env.now ns pattern value k (item_in on k)
 
-module _ {f : NamesLog → ℕ → Item → List Equation} {img bytes w : List ℕ} {lay : Layout} {stretch base : ℕ} {g : Walk} where
+  abbrev firsts : ℕ → NamesLog → List Equation
+  firsts k ns = concat_map_from (item_equations on.env.now ns pattern value) 0 (items_at on.env.now.image.now (on.at + 4) k)
+
+  -- the first k items are done
+  abbrev pub ItemsDone : ℕ → (g r : Walk) → Type 0
+  ItemsDone k g r = Does (firsts k) on.env.now g r (Ok tt)
+
   -- none at first
-  pub items_none : g.refused ≡ 0 → ItemsDone f img bytes w w lay stretch base 0 g g
+  pub items_none : {g : Walk} → ItemsDone 0 g g
   unfolding concat_map_from items_at
-  items_none z = record { running = z; generates = generates_none z }
+  items_none = generates_none tt
 
-  module _ {w₁ w₂ : List ℕ} {k : ℕ} {h r : Walk} (d : ItemsDone f img bytes w w₁ lay stretch base k g h)
-      (e : Does (λ ns. f ns k (item_at img (base + 3 * k))) img bytes w₁ w₂ lay stretch h r) where
-    -- one more is done
-    pub items_on : r.refused ≡ 0 → ItemsDone f img bytes w w₂ lay stretch base (k + 1) g r
+  module _ (k : ℕ) {g h r : Walk} (d : ItemsDone k g h) where
+    -- one more
+    items_then : (o : Result (Unit {0}) Refusal) → Does (one k) on.env.now h r o → Does (firsts (k + 1)) on.env.now g r o
     unfolding only followed_by
-    items_on z = record {
-      running = z;
-      generates = generates_same (λ ns. ap (λ (es : List Equation). only es ns g.next) (sym (items_next img base (f ns) k))) (generates_then d.generates d.running e);
-    }
+    items_then o e =
+        generates_same o
+        (λ ns. ap (λ (es : List Equation). only es ns g.next) (sym (items_next on.env.now.image.now (on.at + 4) (item_equations on.env.now ns pattern value) k)))
+        (generates_then o d e)
+
+    pub items_on : Does (one k) on.env.now h r (Ok tt) → ItemsDone (k + 1) g r
+    items_on e = items_then (Ok tt) e
 
     -- one was refused
-    items_stop : (n : ℕ) → k < n → (r.refused ≡ 0 → ⊥) → Does (λ ns. concat_map_from (f ns) 0 (items_at img base n)) img bytes w w₂ lay stretch g r
+    items_stop : {why : Refusal} (n : ℕ) → k < n → Does (one k) on.env.now h r (Err why) → Does (firsts n) on.env.now g r (Err why)
     unfolding only followed_by
-    items_stop n l z =
+    items_stop {why} n l e =
+        let img = on.env.now.image.now in
         let q : k + 1 + (n - (k + 1)) ≡ n = omega arith in
-        generates_same
-        (λ ns. ap (λ (es : List Equation). only es ns g.next)
-        (ap (λ (es : List Equation). es ++ concat_map_from (f ns) (k + 1) (items_at img (base + 3 * (k + 1)) (n - (k + 1)))) (sym (items_next img base (f ns) k))
-        ∙ sym (items_more img base (f ns) (k + 1) (n - (k + 1)))
-        ∙ ap (λ (j : ℕ). concat_map_from (f ns) 0 (items_at img base j)) q))
-        (generates_stopped (λ ns s. only (concat_map_from (f ns) (k + 1) (items_at img (base + 3 * (k + 1)) (n - (k + 1)))) ns s) (generates_then d.generates d.running e) z)
-
--- a pattern of n items and its value, whose equations are these
-pub record PatternGives (img bytes : List ℕ) (f : NamesLog → ℕ → Item → List Equation) (aux base n : ℕ) : Type 0 where
-  pub whole : (ns : NamesLog) → concat_map_from (f ns) 0 (items_at img base (n - 1)) ≡ destructure_equations (program img bytes) ns aux (items_at img base n)
-
-module _ (img bytes : List ℕ) (base n : ℕ) (some : 1 ≤ n) where
-  value_at : (value_item (items_at img base n)).id ≡ word img (base + 3 * (n - 1) + 1)
-  unfolding item_at
-  value_at =
-      let q : n ≡ suc (n - 1) = omega arith in
-      ap (λ (m : ℕ). (value_item (items_at img base m)).id) q ∙ ap (λ (x : Item). x.id) (value_is img (n - 1) base)
-
-  rest_are : pattern_items (items_at img base n) ≡ items_at img base (n - 1)
-  rest_are =
-      let q : n ≡ suc (n - 1) = omega arith in
-      ap (λ (m : ℕ). pattern_items (items_at img base m)) q ∙ pattern_are img (n - 1) base
-
-  pub array_whole : PatternGives img bytes (λ ns. array_equations (program img bytes) ns (word img (base + 3 * (n - 1) + 1))) 0 base n
-  unfolding destructure_equations
-  array_whole = record { whole = λ ns. rw (value_at, rest_are) }
-
-  pub object_whole : PatternGives img bytes (λ ns k. object_equations (program img bytes) ns (word img (base + 3 * (n - 1) + 1))) 1 base n
-  unfolding destructure_equations
-  object_whole = record { whole = λ ns. rw (value_at, rest_are) (sym (flat_numbered (object_equations (program img bytes) ns (word img (base + 3 * (n - 1) + 1))) 0 (items_at img base (n - 1)))) }
-
-module _ {img bytes w : List ℕ} {lay : Layout} {stretch base n aux : ℕ} {g : Walk} {f : NamesLog → ℕ → Item → List Equation} (p : PatternGives img bytes f aux base n) where
-  -- all items are done
-  pub pattern_ends : {w₁ : List ℕ} {k : ℕ} {h : Walk} → ItemsDone f img bytes w w₁ lay stretch base k g h → k ≡ n - 1
-      → Does (λ ns. destructure_equations (program img bytes) ns aux (items_at img base n)) img bytes w w₁ lay stretch g h
-  pattern_ends d e =
-      generates_same (λ ns. ap (λ (es : List Equation). only es ns g.next) (ap (λ (j : ℕ). concat_map_from (f ns) 0 (items_at img base j)) e ∙ p.whole ns)) d.generates
-
-  -- one was refused
-  pub pattern_stops : {w₁ w₂ : List ℕ} {k : ℕ} {h r : Walk} → ItemsDone f img bytes w w₁ lay stretch base k g h
-      → Does (λ ns. f ns k (item_at img (base + 3 * k))) img bytes w₁ w₂ lay stretch h r → k < n - 1 → (r.refused ≡ 0 → ⊥)
-      → Does (λ ns. destructure_equations (program img bytes) ns aux (items_at img base n)) img bytes w w₂ lay stretch g r
-  pattern_stops d e l z = generates_same (λ ns. ap (λ (es : List Equation). only es ns g.next) (p.whole ns)) (items_stop d e (n - 1) l z)
+        generates_same (Err why)
+        (λ ns.
+        ap (λ (es : List Equation). only es ns g.next)
+        (sym (items_more img (on.at + 4) (item_equations on.env.now ns pattern value) (k + 1) (n - (k + 1))) ∙ ap (λ (j : ℕ). firsts j ns) q))
+        (generates_stopped
+        (λ ns s. only (concat_map_from (item_equations on.env.now ns pattern value) (k + 1) (items_at img (on.at + 4 + 3 * (k + 1)) (n - (k + 1)))) ns s)
+        (items_then (Err why) e))
 
 -- a Destructure
-module _ {img bytes w : List ℕ} {lay : Layout} {stretch place : ℕ} {g : Walk} (a : ReadyAt img bytes w lay stretch g place 1) where
-  last_word : word img (place + 4 + 3 * (word img (place + 3) - 1) + 1) ≡ word img (place + 2 + 3 * word img (place + 3))
-  last_word = let m = a.many in ap (word img) (omega arith)
+module _ (on : Instruction) (some : 1 ≤ item_count on) {n : ℕ} (many : n ≡ item_count on) {item : ItemRead} (i : ItemIs on.env.now.image.now (on.at + 4 + 3 * (n - 1)) item) {pattern : Pattern}
+    {aux : ℕ} (p : pattern ≡ pattern_of aux) (x : aux ≡ word on.env.now.image.now (on.at + 2)) where
+  counted : item_count on ≡ suc (n - 1)
+  counted = omega arith
 
-  -- an item and the value, where the items before it are done
-  pub element_asked : {f : NamesLog → ℕ → Item → List Equation} {w₁ : List ℕ} {k : ℕ} {h : Walk} → ItemsDone f img bytes w w₁ lay stretch (place + 4) k g h → k < word img (place + 3) - 1
-      → ElementAsked img bytes w₁ lay stretch h (word img (place + 2 + 3 * word img (place + 3))) (place + 4 + 3 * k)
-  unfolding after_instruction
-  element_asked {k = k} d l =
-      let m = a.many in
-      let i = a.fits.inside in
-      let e = last_word in
-      let v = (a.fits.item (word img (place + 3) - 1) (omega arith)).id in
-      record { ready = ready_on a.ready d.generates d.running; value_inside = omega arith; inside = omega arith; fits = a.fits.item k (omega arith) }
+  value_at : item.id.0 ≡ (value_item (items_at on.env.now.image.now (on.at + 4) (item_count on))).id
+  unfolding item_at
+  value_at =
+      let img = on.env.now.image.now in
+      i.id ∙ sym (ap (λ (m : ℕ). (value_item (items_at img (on.at + 4) m)).id) counted ∙ ap (λ (y : Item). y.id) (value_is img (n - 1) (on.at + 4)))
 
-  -- the equations of its pattern
-  pub array_gives : PatternGives img bytes (λ ns. array_equations (program img bytes) ns (word img (place + 2 + 3 * word img (place + 3)))) 0 (place + 4) (word img (place + 3))
-  array_gives =
-      let n = word img (place + 3) in
-      subst (λ (v : ℕ). PatternGives img bytes (λ ns. array_equations (program img bytes) ns v) 0 (place + 4) n) last_word (array_whole img bytes (place + 4) n a.many)
+  rest_are : pattern_items (items_at on.env.now.image.now (on.at + 4) (item_count on)) ≡ items_at on.env.now.image.now (on.at + 4) (n - 1)
+  rest_are =
+      let img = on.env.now.image.now in
+      ap (λ (m : ℕ). pattern_items (items_at img (on.at + 4) m)) counted ∙ pattern_are img (n - 1) (on.at + 4)
 
-  pub object_gives : PatternGives img bytes (λ ns k. object_equations (program img bytes) ns (word img (place + 2 + 3 * word img (place + 3)))) 1 (place + 4) (word img (place + 3))
-  object_gives =
-      let n = word img (place + 3) in
-      subst (λ (v : ℕ). PatternGives img bytes (λ ns k. object_equations (program img bytes) ns v) 1 (place + 4) n) last_word (object_whole img bytes (place + 4) n a.many)
+  whole : (ns : NamesLog) (w : ℕ) → firsts on (pattern_of w) item.id.0 (n - 1) ns
+      ≡ destructure_equations (program_of on.env.now) ns w (items_at on.env.now.image.now (on.at + 4) (item_count on))
+  unfolding destructure_equations item_equations pattern_of
+  whole ns zero = rw (← value_at, rest_are)
+  whole ns (suc w) =
+      rw (pattern_of, ne_eqb (suc w) 0 (λ e. omega arith), item_equations, ← value_at, rest_are)
+      (sym (flat_numbered (object_equations (program_of on.env.now) ns item.id.0) 0 (items_at on.env.now.image.now (on.at + 4) (n - 1))))
 
-module _ {img bytes w w' : List ℕ} {lay : Layout} {stretch : ℕ} {g r : Walk} (place : ℕ) where
-  pub array_destructures : word img (place + 2) ≡ 0
-      → Does (λ ns. destructure_equations (program img bytes) ns 0 (items_at img (place + 4) (word img (place + 3)))) img bytes w w' lay stretch g r
-      → Runs Destructure img bytes w w' lay stretch place g r
+  destructs : {g r : Walk} (o : Result (Unit {0}) Refusal) → Does (firsts on pattern item.id.0 (n - 1)) on.env.now g r o → GeneratesAs Destructure on g r o
   unfolding only generate_instruction_types instruction_at
-  array_destructures z f =
-      generates_same (λ ns. ap (λ (j : ℕ). only (destructure_equations (program img bytes) ns j (items_at img (place + 4) (word img (place + 3)))) ns g.next) (sym z)) f
+  destructs {g} o f = generates_same o (λ ns. ap (λ (es : List Equation). only es ns g.next) (rw (p, x) (whole ns (word on.env.now.image.now (on.at + 2))))) f
 
-  pub object_destructures : (word img (place + 2) ≡ 0 → ⊥)
-      → Does (λ ns. destructure_equations (program img bytes) ns 1 (items_at img (place + 4) (word img (place + 3)))) img bytes w w' lay stretch g r
-      → Runs Destructure img bytes w w' lay stretch place g r
-  unfolding only generate_instruction_types instruction_at destructure_equations
-  object_destructures z f =
-      let q : suc (word img (place + 2) - 1) ≡ word img (place + 2) = omega arith in
-      generates_same (λ ns. ap (λ (j : ℕ). only (destructure_equations (program img bytes) ns j (items_at img (place + 4) (word img (place + 3)))) ns g.next) q) f
+  -- all items are done
+  pub items_end : {k : ℕ} {g r : Walk} → ItemsDone on pattern item.id.0 k g r → k ≤ n - 1 → n - 1 ≤ k → GeneratesAs Destructure on g r (Ok tt)
+  items_end {g = g} {r} d l m = destructs (Ok tt) (subst (λ (j : ℕ). ItemsDone on pattern item.id.0 j g r) (omega arith) d)
 
--- an item of a pattern
-module _ {img bytes w : List ℕ} {lay : Layout} {stretch : ℕ} {g : Walk} {value place : ℕ} (a : ElementAsked img bytes w lay stretch g value place) where
-  pub item_asked : Laid img × (place + 1 < length img) × IdentifierAt img (place + 1)
-  item_asked = let i = a.inside in (a.ready.solving.laid, omega arith, a.fits.id)
-
-  item_type : get_type (program img bytes) (word img (place + 1)) ≡ place_type img (place + 1)
-  unfolding get_type place_type
-  item_type = ap var (slot_is img bytes (word img (place + 1)) a.fits.id)
-
-  -- a place of an array pattern
-  pub position_asked : {slot : ℕ} (k : ℕ) → slot ≡ cell Identifiers img (word img (place + 1)) 0 → PropertyAsked img bytes w lay stretch g slot value (Position k)
-  position_asked k e = image_asked a.ready e a.fits.id a.value_inside tt
-
-  pub position_generates : {slot : ℕ} {w' : List ℕ} {r : Walk} (k : ℕ) → word img place ≡ 0 → slot ≡ cell Identifiers img (word img (place + 1)) 0
-      → Does (λ ns. var slot ≐_property access (program img bytes) ns value (key_name img bytes (Position k)) ∷ []) img bytes w w' lay stretch g r
-      → Does (λ ns. array_equations (program img bytes) ns value k (item_at img place)) img bytes w w' lay stretch g r
-  unfolding array_equations when has_tag item_at key_name place_type
-  position_generates k z e f =
-      generates_same (λ ns. rw z (access_same (program img bytes) ns g.next {n = string (digits k)} {n' = string (digits k)} (ap var e ∙ sym item_type) refl refl)) f
-
-  -- a spread
-  pub spread_asked : {x y : ℕ} → x ≡ cell Identifiers img (word img (place + 1)) 0 → y ≡ lay.own + 6 + 3 * 4 → EqualAsked w lay g x y
-  spread_asked d e =
-      let s = a.ready.solving in
-      equal_asked {t = place_type img (place + 1)} {u = object 4} s (rw d (place_rep s (place + 1) a.fits.id)) (rw e (object_rep s 4 (omega arith)))
-
-  pub spread_generates : {x y : ℕ} {w' : List ℕ} {r : Walk} (k : ℕ) → word img place ≡ 1 → x ≡ cell Identifiers img (word img (place + 1)) 0 → y ≡ lay.own + 6 + 3 * 4 → Equates w w' lay g x y r
-      → Does (λ ns. array_equations (program img bytes) ns value k (item_at img place)) img bytes w w' lay stretch g r
-  unfolding array_equations when has_tag item_at
-  spread_generates k z d e f =
-      let s = a.ready.solving in
-      let h = (f.means (place_type img (place + 1)) (object 4) (λ o. record { left = rw d (place_rep s (place + 1) a.fits.id); right = rw e (object_rep s 4 (omega arith)) })).solves s.running in
-      generates_same (λ ns. rw z (ap (λ (t : Ty). only (t ≐ object 4 ∷ []) ns g.next) (sym item_type))) (generates_only a.ready h)
-
-  -- a hole
-  pub hole_generates : (k : ℕ) → (word img place ≡ 0 → ⊥) → (word img place ≡ 1 → ⊥)
-      → Does (λ ns. array_equations (program img bytes) ns value k (item_at img place)) img bytes w w lay stretch g g
-  unfolding array_equations when has_tag item_at
-  hole_generates k z o = generates_same (λ ns. rw (ne_eqb (word img place) 0 z, ne_eqb (word img place) 1 o)) (generates_none a.ready.solving.running)
-
-  -- a key with a name
-  pub named_asked : {slot : ℕ} → word img place ≡ 3 → slot ≡ cell Identifiers img (word img (place + 1)) 0 → PropertyAsked img bytes w lay stretch g slot value (String (word img (place + 2)))
-  unfolding one_of
-  named_asked z e = image_asked a.ready e a.fits.id a.value_inside (a.fits.name (rw z))
-
-  pub named_generates : {slot : ℕ} {w' : List ℕ} {r : Walk} → word img place ≡ 3 → slot ≡ cell Identifiers img (word img (place + 1)) 0
-      → Does (λ ns. var slot ≐_property access (program img bytes) ns value (key_name img bytes (String (word img (place + 2)))) ∷ []) img bytes w w' lay stretch g r
-      → Does (λ ns. object_equations (program img bytes) ns value (item_at img place)) img bytes w w' lay stretch g r
-  unfolding object_equations when has_tag item_at key_name place_type one_of
-  named_generates z e f =
-      generates_same
-      (λ ns. rw z (access_same (program img bytes) ns g.next (ap var e ∙ sym item_type) refl (ap string (sym (name_is img bytes (word img (place + 2)) (a.fits.name (rw z)))))))
-      f
-
-  -- any other
-  pub other_generates : (word img place ≡ 3 → ⊥) → Does (λ ns. object_equations (program img bytes) ns value (item_at img place)) img bytes w w lay stretch g g
-  unfolding object_equations when has_tag item_at
-  other_generates z = generates_same (λ ns. rw (ne_eqb (word img place) 3 z)) (generates_none a.ready.solving.running)
+  -- one was refused
+  pub items_refused : {k : ℕ} {g h r : Walk} {why : Refusal} → ItemsDone on pattern item.id.0 k g h → k < n - 1 → Does (one on pattern item.id.0 k) on.env.now h r (Err why)
+      → GeneratesAs Destructure on g r (Err why)
+  items_refused {k} {why = why} d l e = destructs (Err why) (items_stop on pattern item.id.0 k d (n - 1) l e)

@@ -1,412 +1,248 @@
 // The names log, and the equations that read it.
 #![tactic(auto)]
 
-ghost use Rattle.std.specs.Prelude.{◌+◌, ◌≡◌, [], ◌∷◌};
-ghost use Rattle.image.specs.Ty.{var};
-ghost use Rattle.image.specs.Image.{word};
-ghost use Rattle.image.specs.Program.{program};
+ghost use Rattle.std.specs.Prelude.{◌≡◌, ◌+◌, ◌≤◌, ◌<◌, [], ◌∷◌};
+ghost use Rattle.image.specs.Image.{word, count};
+ghost use Rattle.image.specs.declared.Table.TheVariants.{Identifiers};
 ghost use Rattle.image.specs.Kind.{LoadLocal, PropertyLoad, PropertyStore, ComputedLoad, CallExpression, Destructure};
-ghost use Rattle.unifier_properties.specs.Lookup.{key_name, KeyInside};
-ghost use Rattle.unifier_definition.specs.Unify.{◌≐_property◌};
-ghost use Rattle.run_definition.specs.Equations.{access, array_equations, object_equations, destructure_equations};
-ghost use Rattle.run_definition.specs.Generate.{only};
-ghost use Rattle.run_definition.specs.Position.{item_at, items_at};
-ghost use Rattle.run_walk.specs.Running.{ReadyAt, Generates, GeneratesAs};
-ghost use Rattle.run_naming.specs.Naming.{NamesKnown, FindsName, TellsShape, TellsRef, PropertyAsked, ReadsLiteral, LogsName, LogAsked, ElementAsked};
+ghost use Rattle.unifier_properties.specs.Lookup.{KeyInside};
+ghost use Rattle.run_walk.specs.Solving.{item_count};
+ghost use Rattle.run_walk.specs.Running.{Ready, GeneratesAs};
+ghost use Rattle.run_equations.specs.Parts.{item_in};
+ghost use Rattle.run_naming.specs.Naming.{FindsName, TellsShape, TellsRef, Does, property_equation, PropertyAsked, literal_key, LogAsked, LogsName, pattern_of, item_equations};
 
-use image::{IdentifierId, NONE, TypeId, header, name_bytes, shapes, tags, type_kinds};
-use names::{is_ref_like_name, same_bytes, starts_with_set};
+use image::refusal::Refusal;
+use image::tags::Tag;
+use image::{IdentifierId, NONE, TypeId, shapes, type_kinds};
+use names::{is_ref_like_name, starts_with_set};
 use run_equations::call;
-use run_layout::Layout;
-use run_walk::{Walk, equal, object_of, slot_at, spent, var_at, walked};
+use run_reading::env::Env;
+use run_reading::instruction::Instruction;
+use run_walk::Walk;
 use unifier::access::{Places, unify_property};
 use unifier_counts::counted;
-use unifier_nodes::state::Unifier;
 use unifier_properties::Key;
 
+// The words of an entry of the names log: an identifier, and the number of its name.
+const ENTRY_WORDS: usize = 2;
+
+// Aux of a Destructure with an array pattern; any other has an object pattern.
+const ARRAY_PATTERN: u32 = 0;
+
 // The newest name that is logged for an identifier, empty if there is none.
-fn logged_name<'a>(
-    img: &[u32],
-    bytes: &'a [u8],
-    w: &[u32],
-    from: u32,
-    to: u32,
-    id: IdentifierId,
-) -> &'a [u8]
-    requires { NamesKnown img.now bytes.now w.now from to }
-    ensures { FindsName img.now bytes.now w.now from to id.0 result.now }
+fn logged_name<'a>(env: &Env<'a>, walk: &Walk, id: IdentifierId) -> &'a [u8]
+    requires ready { Ready env.now walk.now }
+    ensures { FindsName env.now walk.now id.0 result.now }
 {
-    let mut k = to;
-    while k > from {
-        k -= 2;
-        if w[k as usize] == id.0 {
-            return name_bytes(img, bytes, w[k as usize + 1]);
+    let log = &walk.unifier.words[walk.names as usize..walk.log as usize];
+    for entry in log.rchunks_exact(ENTRY_WORDS) {
+        if entry[0] == id.0 {
+            return env.name(entry[1]);
         }
     }
-    &bytes[0..0]
+    &[]
 }
 
-// The shape of a call's callee, by option bit 1 and its name.
-fn callee_shape(img: &[u32], bytes: &[u8], w: &[u32], from: u32, to: u32, id: IdentifierId) -> u32
-    requires { NamesKnown img.now bytes.now w.now from to }
-    ensures { TellsShape img.now bytes.now w.now from to id.0 result }
+// The shape of a call's callee, if it has one: by option bit 1, a callee whose name starts with "set" may be a state setter.
+fn callee_shape(env: &Env, walk: &Walk, id: IdentifierId) -> Option<u32>
+    requires ready { Ready env.now walk.now }
+    ensures { TellsShape env.now walk.now id.0 result }
 {
-    if img[header::OPTIONS] / 2 % 2 != 1 {
-        return NONE;
+    if !env.treats_setters() {
+        return None;
     }
-    if starts_with_set(logged_name(img, bytes, w, from, to, id)) {
-        return shapes::BUILT_IN_SET_STATE_ID;
+    if starts_with_set(logged_name(env, walk, id)) {
+        return Some(shapes::BUILT_IN_SET_STATE_ID);
     }
-    NONE
+    None
 }
 
 // Whether option bit 0 and the names make this access one of a ref; only a property "current" can be.
-fn is_ref_access(
-    img: &[u32],
-    bytes: &[u8],
-    w: &[u32],
-    from: u32,
-    to: u32,
-    id: IdentifierId,
-    key: Key,
-) -> bool
-    requires { NamesKnown img.now bytes.now w.now from to × KeyInside img.now key }
-    ensures { TellsRef img.now bytes.now w.now from to id.0 key result }
+fn is_ref_access(env: &Env, walk: &Walk, id: IdentifierId, key: Key) -> bool
+    requires ready { Ready env.now walk.now }
+    requires key { KeyInside env.now.image.now key }
+    ensures { TellsRef env.now walk.now id.0 key result }
 {
-    if img[header::OPTIONS] % 2 != 1 {
+    if !env.treats_refs() {
         return false;
     }
     let Key::String(n) = key else {
         return false;
     };
-    let name = name_bytes(img, bytes, n);
-    if !same_bytes(name, b"current") {
-        return false;
-    }
-    is_ref_like_name(logged_name(img, bytes, w, from, to, id), name)
+    let name = env.name(n);
+    name == b"current".as_slice() && is_ref_like_name(logged_name(env, walk, id), name)
 }
 
 // A slot is a property of an identifier.
 fn property(
-    img: &[u32],
-    bytes: &[u8],
-    w: &mut [u32],
-    lay: Layout,
-    g: Walk,
-    stretch: u32,
+    env: &Env,
+    walk: &mut Walk,
     slot: TypeId,
     id: IdentifierId,
     key: Key,
-) -> Walk
-    requires { PropertyAsked img.now bytes.now w.old lay stretch g slot.0 id.0 key }
-    ensures { Generates (λ ns k. only (var slot.0 ≐_property access (program img.now bytes.now) ns id.0 (key_name img.now bytes.now key) ∷ []) ns k) img.now bytes.now w.old w.new lay stretch g result }
+) -> Result<(), Refusal>
+    requires { PropertyAsked env.now walk.old slot.0 id.0 key }
+    ensures { Does (λ ns. property_equation env.now ns slot.0 id.0 key ∷ []) env.now walk.old walk.new result }
 {
-    let ref_like = is_ref_access(img, bytes, w, stretch, g.log, id, key);
-    let object = image::slot_of(img, id);
-    let use_ref = object_of(lay, shapes::BUILT_IN_USE_REF_ID);
-    let ref_value = object_of(lay, shapes::BUILT_IN_REF_VALUE_ID);
+    let ref_like = is_ref_access(env, walk, id, key);
+    let object = env.slot_of(id);
     let places = Places {
-        types: lay.lo,
-        use_ref,
-        ref_value,
+        types: env.lay.lo,
+        use_ref: env.lay.object_of(shapes::BUILT_IN_USE_REF_ID),
+        ref_value: env.lay.object_of(shapes::BUILT_IN_REF_VALUE_ID),
     };
-    let mut unifier = Unifier {
-        words: &mut *w,
-        lo: lay.lo,
-        left: g.left,
-        top: g.top,
-        stack: lay.stack,
-    };
+    let image = env.named();
     let accessed = unify_property(
-        img,
-        bytes,
-        &mut unifier,
+        &image,
+        &mut walk.unifier,
         places,
         slot.0,
         object.0,
         key,
         ref_like,
     );
-    let mut h = walked(g, unifier.left, unifier.top, accessed.outcome);
-    h.counts = counted(g.counts, accessed.given);
-    h
+    walk.counts = counted(walk.counts, accessed.given);
+    accessed.outcome
 }
 
-// The name of a property, NONE for a number.
-fn literal(aux: u32) -> Key
-    ensures { ReadsLiteral aux result }
+// The key of a load or a store: a name, or a number.
+#[tactic(auto, unfolding(crate::specs::Naming::literal_key))]
+fn literal(on: &Instruction) -> Key
+    ensures { result ≡ literal_key (word on.now.env.now.image.now (on.now.at + 2)) }
 {
-    if aux == NONE {
-        return Key::Number;
+    match on.aux_or_none() {
+        Some(n) => Key::String(n),
+        None => Key::Number,
     }
-    Key::String(aux)
 }
 
-pub fn property_load(
-    img: &[u32],
-    bytes: &[u8],
-    w: &mut [u32],
-    lay: Layout,
-    g: Walk,
-    stretch: u32,
-    at: usize,
-) -> Walk
-    requires { ReadyAt img.now bytes.now w.old lay stretch g at 1 × (word img.now at ≡ 23) }
-    ensures { GeneratesAs PropertyLoad img.now bytes.now w.old w.new lay stretch g at result }
+pub fn property_load(on: &Instruction, walk: &mut Walk) -> Result<(), Refusal>
+    requires ready { Ready on.now.env.now walk.old }
+    requires items { 1 ≤ item_count on.now }
+    requires kind { word on.now.env.now.image.now on.now.at ≡ 23 }
+    ensures { GeneratesAs PropertyLoad on.now walk.old walk.new result }
 {
-    let slot = slot_at(img, at + 1);
-    let key = literal(img[at + 2]);
-    let id = IdentifierId(img[at + 5]);
-    property(img, bytes, w, lay, g, stretch, slot, id, key)
+    property(on.env, walk, on.slot(), on.item(0).id, literal(on))
 }
 
-pub fn computed_load(
-    img: &[u32],
-    bytes: &[u8],
-    w: &mut [u32],
-    lay: Layout,
-    g: Walk,
-    stretch: u32,
-    at: usize,
-) -> Walk
-    requires { ReadyAt img.now bytes.now w.old lay stretch g at 1 }
-    ensures { GeneratesAs ComputedLoad img.now bytes.now w.old w.new lay stretch g at result }
+pub fn computed_load(on: &Instruction, walk: &mut Walk) -> Result<(), Refusal>
+    requires ready { Ready on.now.env.now walk.old }
+    requires items { 1 ≤ item_count on.now }
+    ensures { GeneratesAs ComputedLoad on.now walk.old walk.new result }
 {
-    let slot = slot_at(img, at + 1);
-    let id = IdentifierId(img[at + 5]);
-    property(img, bytes, w, lay, g, stretch, slot, id, Key::Computed)
+    property(on.env, walk, on.slot(), on.item(0).id, Key::Computed)
 }
 
 // A callee whose logged name starts with "set" may be a state setter.
-pub fn call_expression(
-    img: &[u32],
-    bytes: &[u8],
-    w: &mut [u32],
-    lay: Layout,
-    g: Walk,
-    stretch: u32,
-    at: usize,
-) -> Walk
-    requires { ReadyAt img.now bytes.now w.old lay stretch g at 1 }
-    ensures { GeneratesAs CallExpression img.now bytes.now w.old w.new lay stretch g at result }
+pub fn call_expression(on: &Instruction, walk: &mut Walk) -> Result<(), Refusal>
+    requires ready { Ready on.now.env.now walk.old }
+    requires items { 1 ≤ item_count on.now }
+    ensures { GeneratesAs CallExpression on.now walk.old walk.new result }
 {
-    let shape = callee_shape(img, bytes, w, stretch, g.log, IdentifierId(img[at + 5]));
-    call(img, w, lay, g, at, at + 5, type_kinds::FUNCTION, shape)
+    let shape = callee_shape(on.env, walk, on.item(0).id).unwrap_or(NONE);
+    call(on, walk, on.operand(0), type_kinds::FUNCTION, shape)
 }
 
 // A slot is made for what is stored.
-pub fn property_store(
-    img: &[u32],
-    bytes: &[u8],
-    w: &mut [u32],
-    lay: Layout,
-    g: Walk,
-    stretch: u32,
-    at: usize,
-) -> Walk
-    requires { ReadyAt img.now bytes.now w.old lay stretch g at 1 × (word img.now at ≡ 22) }
-    ensures { GeneratesAs PropertyStore img.now bytes.now w.old w.new lay stretch g at result }
+pub fn property_store(on: &Instruction, walk: &mut Walk) -> Result<(), Refusal>
+    requires ready { Ready on.now.env.now walk.old }
+    requires items { 1 ≤ item_count on.now }
+    requires kind { word on.now.env.now.image.now on.now.at ≡ 22 }
+    ensures { GeneratesAs PropertyStore on.now walk.old walk.new result }
 {
-    let left = g.left;
-    if left == 0 {
-        return spent(g);
-    }
-    let slot = TypeId(g.next);
-    let key = literal(img[at + 2]);
-    let id = IdentifierId(img[at + 5]);
-    let mut h = property(img, bytes, w, lay, g, stretch, slot, id, key);
-    h.next = slot.0 + 1;
-    h
+    walk.has_step()?;
+    let slot = TypeId(walk.next);
+    property(on.env, walk, slot, on.item(0).id, literal(on))?;
+    walk.next = slot.0 + 1;
+    Ok(())
 }
 
-// An element of an array pattern, at its position.
-fn array_element(
-    img: &[u32],
-    bytes: &[u8],
-    w: &mut [u32],
-    lay: Layout,
-    g: Walk,
-    stretch: u32,
+// The pattern of a Destructure.
+#[derive(Clone, Copy)]
+enum Pattern {
+    Array,
+    Object,
+}
+
+// By aux.
+impl From<u32> for Pattern {
+    ghost from_gives = { λ aux pattern. pattern ≡ pattern_of aux };
+
+    #[tactic(auto, unfolding(crate::specs::Naming::pattern_of))]
+    fn from(aux: u32) -> Pattern {
+        if aux == ARRAY_PATTERN {
+            return Pattern::Array;
+        }
+        Pattern::Object
+    }
+}
+
+// Item k of a pattern: in an array, a place is the value's property of that position, and a spread is an array; in an object, a key with a
+// name is the value's property of that name.
+fn pattern_item(
+    on: &Instruction,
+    walk: &mut Walk,
+    pattern: Pattern,
     value: IdentifierId,
     k: u32,
-    at: usize,
-) -> Walk
-    requires { ElementAsked img.now bytes.now w.old lay stretch g value.0 at }
-    ensures { Generates (λ ns s. only (array_equations (program img.now bytes.now) ns value.0 k (item_at img.now at)) ns s) img.now bytes.now w.old w.new lay stretch g result }
+) -> Result<(), Refusal>
+    requires ready { Ready on.now.env.now walk.old }
+    requires item { k < item_count on.now }
+    requires value { value.0 < count Identifiers on.now.env.now.image.now }
+    ensures { Does (λ ns. item_equations on.now.env.now ns pattern value.0 k (item_in on.now k)) on.now.env.now walk.old walk.new result }
 {
-    match img[at] {
-        tags::PLACE => {
-            let slot = slot_at(img, at + 1);
-            property(
-                img,
-                bytes,
-                w,
-                lay,
-                g,
-                stretch,
-                slot,
-                value,
-                Key::Position(k),
-            )
-        }
-        tags::SPREAD => equal(
-            w,
-            lay,
-            g,
-            slot_at(img, at + 1),
-            object_of(lay, shapes::BUILT_IN_ARRAY_ID),
+    let env = on.env;
+    let item = on.item(k);
+    let slot = on.operand(k);
+    let Some(tag) = item.tag else {
+        return Ok(());
+    };
+    match (pattern, tag) {
+        (Pattern::Array, Tag::Place) => property(env, walk, slot, value, Key::Position(k)),
+        (Pattern::Array, Tag::Spread) => walk.equal(
+            slot,
+            env.lay.object_of(shapes::BUILT_IN_ARRAY_ID),
         ),
-        _ => g,
+        (Pattern::Object, Tag::NamedKey) => property(env, walk, slot, value, Key::String(item.key)),
+        _ => Ok(()),
     }
 }
 
-// A property of an object pattern.
-fn object_property(
-    img: &[u32],
-    bytes: &[u8],
-    w: &mut [u32],
-    lay: Layout,
-    g: Walk,
-    stretch: u32,
-    value: IdentifierId,
-    at: usize,
-) -> Walk
-    requires { ElementAsked img.now bytes.now w.old lay stretch g value.0 at }
-    ensures { Generates (λ ns s. only (object_equations (program img.now bytes.now) ns value.0 (item_at img.now at)) ns s) img.now bytes.now w.old w.new lay stretch g result }
+// The value of a Destructure is its last item, and those before it are its pattern.
+pub fn destructure(on: &Instruction, walk: &mut Walk) -> Result<(), Refusal>
+    requires ready { Ready on.now.env.now walk.old }
+    requires items { 1 ≤ item_count on.now }
+    ensures { GeneratesAs Destructure on.now walk.old walk.new result }
 {
-    if img[at] != tags::NAMED_KEY {
-        return g;
+    let pattern = Pattern::from(on.aux());
+    let last = on.items() - 1;
+    let value = on.item(last).id;
+    for k in 0..last {
+        pattern_item(on, walk, pattern, value, k)?;
     }
-    let slot = slot_at(img, at + 1);
-    let key = Key::String(img[at + 2]);
-    property(img, bytes, w, lay, g, stretch, slot, value, key)
-}
-
-fn array_pattern(
-    img: &[u32],
-    bytes: &[u8],
-    w: &mut [u32],
-    lay: Layout,
-    g0: Walk,
-    stretch: u32,
-    at: usize,
-) -> Walk
-    requires { ReadyAt img.now bytes.now w.old lay stretch g0 at 1 }
-    ensures { Generates (λ ns s. only (destructure_equations (program img.now bytes.now) ns 0 (items_at img.now (at + 4) (word img.now (at + 3)))) ns s) img.now bytes.now w.old w.new lay stretch g0 result }
-{
-    let n = img[at + 3];
-    let value = IdentifierId(img[at + 2 + 3 * n as usize]);
-    let mut g = g0;
-    for k in 0..n - 1 {
-        g = array_element(
-            img,
-            bytes,
-            w,
-            lay,
-            g,
-            stretch,
-            value,
-            k,
-            at + 4 + 3 * k as usize,
-        );
-        let refused = g.refused;
-        if refused != 0 {
-            return g;
-        }
-    }
-    g
-}
-
-fn object_pattern(
-    img: &[u32],
-    bytes: &[u8],
-    w: &mut [u32],
-    lay: Layout,
-    g0: Walk,
-    stretch: u32,
-    at: usize,
-) -> Walk
-    requires { ReadyAt img.now bytes.now w.old lay stretch g0 at 1 }
-    ensures { Generates (λ ns s. only (destructure_equations (program img.now bytes.now) ns 1 (items_at img.now (at + 4) (word img.now (at + 3)))) ns s) img.now bytes.now w.old w.new lay stretch g0 result }
-{
-    let n = img[at + 3];
-    let value = IdentifierId(img[at + 2 + 3 * n as usize]);
-    let mut g = g0;
-    for k in 0..n - 1 {
-        g = object_property(
-            img,
-            bytes,
-            w,
-            lay,
-            g,
-            stretch,
-            value,
-            at + 4 + 3 * k as usize,
-        );
-        let refused = g.refused;
-        if refused != 0 {
-            return g;
-        }
-    }
-    g
-}
-
-// The value of a Destructure is its last item.
-pub fn destructure(
-    img: &[u32],
-    bytes: &[u8],
-    w: &mut [u32],
-    lay: Layout,
-    g: Walk,
-    stretch: u32,
-    at: usize,
-) -> Walk
-    requires { ReadyAt img.now bytes.now w.old lay stretch g at 1 × (word img.now at ≡ 6) }
-    ensures { GeneratesAs Destructure img.now bytes.now w.old w.new lay stretch g at result }
-{
-    if img[at + 2] == 0 {
-        return array_pattern(img, bytes, w, lay, g, stretch, at);
-    }
-    object_pattern(img, bytes, w, lay, g, stretch, at)
+    Ok(())
 }
 
 // Logs the name of what is loaded, if it has one.
-fn log_name(img: &[u32], w: &mut [u32], g: Walk, id: IdentifierId, source: IdentifierId) -> Walk
-    requires { LogAsked img.now w.old g source.0 }
-    ensures { LogsName img.now w.old w.new g id.0 source.0 result }
+fn log_name(env: &Env, walk: &mut Walk, id: IdentifierId, source: IdentifierId)
+    requires { LogAsked env.now walk.old source.0 }
+    ensures { LogsName env.now walk.old walk.new id.0 source.0 }
 {
-    let n = image::name_of(img, source);
-    if n == NONE {
-        return g;
+    if let Some(n) = env.name_of(source) {
+        let log = walk.log as usize;
+        walk.unifier.words[log] = id.0;
+        walk.unifier.words[log + 1] = n;
+        walk.log += 2;
     }
-    let log = g.log;
-    let i = log as usize;
-    w[i] = id.0;
-    w[i + 1] = n;
-    let mut h = g;
-    h.log = log + 2;
-    h
 }
 
 // The name is logged after the equation.
-pub fn load_local(
-    img: &[u32],
-    bytes: &[u8],
-    w: &mut [u32],
-    lay: Layout,
-    g: Walk,
-    stretch: u32,
-    at: usize,
-) -> Walk
-    requires { ReadyAt img.now bytes.now w.old lay stretch g at 1 }
-    ensures { GeneratesAs LoadLocal img.now bytes.now w.old w.new lay stretch g at result }
+pub fn load_local(on: &Instruction, walk: &mut Walk) -> Result<(), Refusal>
+    requires ready { Ready on.now.env.now walk.old }
+    requires items { 1 ≤ item_count on.now }
+    ensures { GeneratesAs LoadLocal on.now walk.old walk.new result }
 {
-    let h = equal(w, lay, g, slot_at(img, at + 1), var_at(img, at + 5));
-    let refused = h.refused;
-    if refused != 0 {
-        return h;
-    }
-    let id = IdentifierId(img[at + 1]);
-    let source = IdentifierId(img[at + 5]);
-    log_name(img, w, h, id, source)
+    walk.equal(on.slot(), on.operand(0).0)?;
+    log_name(on.env, walk, on.lvalue(), on.item(0).id);
+    Ok(())
 }

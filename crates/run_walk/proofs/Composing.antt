@@ -1,35 +1,35 @@
--- Parts of `generate` one after another: what their work words keep, and what their equations come to. Assumes nothing.
-use Prim.Native.Nat.{ℕ, ◌+◌, ◌*◌, ◌≤◌, ◌<◌}
-use mathlib.Core.Path.{◌≡◌, refl, sym, ap, ◌∙◌, subst}
-use mathlib.Core.Bool.{false}
+-- Parts of `generate` one after another: what their walk keeps, and what their equations come to. Assumes nothing.
+use Rattle.std.proofs.Common.{◌≡◌, refl, sym, ap, ◌∙◌, subst, ℕ, ◌+◌, ◌*◌, ◌≤◌, ◌<◌, arith, List, [], ◌∷◌, ◌++◌, length, Result, Ok, Err, IfOk, false}
 use mathlib.Core.Option.{none}
-use mathlib.Core.List.{List, [], ◌∷◌, ◌++◌}
-use native.Mathlib.Omega.{arith}
-use lib.ListN.{length}
+use Rattle.image.specs.Refusals.{number}
+use Rattle.image.specs.declared.refusal.Refusal.{Refusal}
 use Rattle.image.specs.Ty.{var, prim, method, object}
 use Rattle.image.specs.Image.{word, count, cell, name_at}
+use Rattle.image.specs.Laid.{NamesInside}
+use Rattle.image.proofs.Checked.{laid, names_inside}
+use Rattle.run_definition.proofs.PositionsBody.{checked}
 use Rattle.image.specs.declared.Table.TheVariants.{Identifiers, Slots, Types, Lists}
 use Rattle.unifier_definition.specs.Log.{Log}
 use Rattle.unifier_definition.specs.Outcome.{Outcome, done, refused, out_of_steps, number_of, and_then}
 use Rattle.unifier_definition.specs.Property.{Registry}
 use Rattle.unifier_definition.specs.Unify.{Equation, ◌≐◌, ◌≐_property◌, unify_property, unify_equation, unify_all}
 use Rattle.unifier_definition.specs.Counts.{count_lookups}
-use Rattle.unifier_nodes.specs.Work.{Rep, rep_var, Good}
+use Rattle.unifier_nodes.specs.Work.{rep_var}
 use Rattle.unifier_nodes.specs.Walks.{Refuses}
-use Rattle.unifier_properties.specs.Lookup.{registry_of}
+use Rattle.unifier_nodes.specs.States.{GoodIn, RepIn}
 use Rattle.unifier_counts.specs.Given.{counts_of}
 use Rattle.unifier_nodes.proofs.Frames.{Same, rep_same}
 use Rattle.unifier_definition.proofs.Fuel.{unify_none}
-use Rattle.unifier_nodes.proofs.Getting.{by_zero}
-use Rattle.unifier_nodes.proofs.Promised.{refuses_then}
+use Rattle.unifier_nodes.proofs.Promised.{comes_as, refuses_then}
 use Rattle.unifier_definition.proofs.RunLaws.{unify_all_append}
 use Rattle.unifier_definition.proofs.CountLaws.{count_append}
 use Rattle.run_definition.specs.Equations.{NamesLog, Generated}
 use Rattle.run_definition.specs.Generate.{only, followed_by}
 use Rattle.run_layout.specs.Layout.{layout_of, Prepared}
-use Rattle.run_walk.specs.Solving.{place_type, Solving, WalkKeeps, ComesTo, plain_none, Solves, SolvesNext}
-use Rattle.run_walk.specs.Running.{Logged, none_logged, one_logged, Ready, Ran, Generates}
 use Rattle.run_layout.specs.declared.Layout.{Layout}
+use Rattle.run_reading.specs.declared.env.Env.{Env}
+use Rattle.run_walk.specs.Solving.{place_type, HasStep, Solving, WalkKeeps, plain_none, Solves}
+use Rattle.run_walk.specs.Running.{Logged, none_logged, one_logged, LoggedIn, registry_in, Ready, Ran, Generates}
 use Rattle.run_walk.specs.declared.Walk.{Walk}
 use Rattle.run_definition.proofs.Falling.{unify_all_falls}
 use Rattle.run_walk.proofs.Plain.{plain_append, count_plain}
@@ -76,45 +76,99 @@ prepared_after {img} {w} {w'} {budget} {top} {top'} {lay} p len le same =
           record { inside = i; many = same _ (omega arith) (omega arith) ∙ q.many; each = λ k m. same _ (omega arith) (omega arith) ∙ q.each k m };
     }
 
+-- what is so where a part is done
+pub if_ok : {A : Type 0} {P : A → Type 0} (o : Result A Refusal) → ((x : A) → P x) → IfOk o P
+if_ok (Ok x) f = f x
+if_ok (Err why) f = tt
+
+pub ok_then : {A : Type 0} {P Q : A → Type 0} (o : Result A Refusal) → ((x : A) → P x → Q x) → IfOk o P → IfOk o Q
+ok_then (Ok x) f p = f x p
+ok_then (Err why) f p = tt
+
 -- a part that does nothing keeps everything
-pub keeps_all : {w : List ℕ} {lay : Layout} {g : Walk} → WalkKeeps w w lay g g
-keeps_all = record {
+pub keeps_all : {A : Type 0} {g : Walk} (o : Result A Refusal) → WalkKeeps g g o
+keeps_all o = record {
+  same = refl;
   len = refl;
+  lo = refl;
+  stack = refl;
   grows = omega arith;
   below = λ k l m. refl;
-  names = λ k l m. refl;
-  entries = λ k l. refl;
+  logged = λ k l m. refl;
+  beyond = λ k l. refl;
   fewer = omega arith;
   log_grows = omega arith;
-  pays = λ e. record { spent = omega arith; made = omega arith; noted = omega arith; counted = omega arith };
+  pays = if_ok o (λ x. record { spent = omega arith; made = omega arith; noted = omega arith; counted = omega arith; names = refl });
 }
 
 -- what one part keeps, and then another
-pub keeps_then : {w w₁ w₂ : List ℕ} {lay : Layout} {g g₁ g₂ : Walk} → WalkKeeps w w₁ lay g g₁ → g₁.refused ≡ 0 → WalkKeeps w₁ w₂ lay g₁ g₂ → WalkKeeps w w₂ lay g g₂
-keeps_then f z h =
+pub keeps_then : {A B : Type 0} {g g₁ g₂ : Walk} {x : A} (o : Result B Refusal) → WalkKeeps g g₁ (Ok x) → WalkKeeps g₁ g₂ o → WalkKeeps g g₂ o
+keeps_then o f h =
     let i = f.grows in
     let j = h.grows in
     let a = f.fewer in
     let b = h.fewer in
     let c = f.log_grows in
     let d = h.log_grows in
-    let p = f.pays z in
+    let m = f.lo in
+    let n = f.stack in
+    let p = f.pays in
+    let t = p.noted in
     record {
+      same = h.same ∙ f.same;
       len = h.len ∙ f.len;
+      lo = h.lo ∙ f.lo;
+      stack = h.stack ∙ f.stack;
       grows = omega arith;
-      below = λ k l m. h.below k l (omega arith) ∙ f.below k l m;
-      names = λ k l m. h.names k l (omega arith) ∙ f.names k l m;
-      entries = λ k l. h.entries k l ∙ f.entries k l;
+      below = λ k l e. h.below k (omega arith) (omega arith) ∙ f.below k l e;
+      logged = λ k l e. h.logged k (omega arith) (omega arith) ∙ f.logged k l e;
+      beyond = λ k l. h.beyond k (omega arith) ∙ f.beyond k l;
       fewer = omega arith;
       log_grows = omega arith;
-      pays = λ e. let q = h.pays e in record { spent = omega arith; made = omega arith; noted = omega arith; counted = omega arith };
+      pays = ok_then o (λ y q. record {
+        spent = omega (arith, p.spent, q.spent);
+        made = omega (arith, p.made, q.made);
+        noted = omega (arith, q.noted);
+        counted = omega (arith, p.counted, q.counted);
+        names = q.names ∙ p.names;
+      }) h.pays;
     }
 
--- what a part asks is there again after a part that was not refused
-pub solving_kept : {img w w' : List ℕ} {lay : Layout} {g r : Walk} {σ : Log} → Solving img w lay g → WalkKeeps w w' lay g r → r.refused ≡ 0 → Good w' lay.lo r.top σ
-    → Solving img w' lay r
-solving_kept {σ = σ} s k z good =
-    let p = k.pays z in
+-- a part that is done keeps the same whatever it answers
+pub keeps_value : {A B : Type 0} {g r : Walk} {x : A} (y : B) → WalkKeeps g r (Ok x) → WalkKeeps g r (Ok y)
+keeps_value y k = record {
+  same = k.same;
+  len = k.len;
+  lo = k.lo;
+  stack = k.stack;
+  grows = k.grows;
+  below = k.below;
+  logged = k.logged;
+  beyond = k.beyond;
+  fewer = k.fewer;
+  log_grows = k.log_grows;
+  pays = k.pays;
+}
+
+pub keeps_refused : {A B : Type 0} {g r : Walk} {why : Refusal} → WalkKeeps {A = A} g r (Err why) → WalkKeeps {A = B} g r (Err why)
+keeps_refused k = record {
+  same = k.same;
+  len = k.len;
+  lo = k.lo;
+  stack = k.stack;
+  grows = k.grows;
+  below = k.below;
+  logged = k.logged;
+  beyond = k.beyond;
+  fewer = k.fewer;
+  log_grows = k.log_grows;
+  pays = tt;
+}
+
+-- what a part asks is there again after a part that is done
+pub solving_kept : {A : Type 0} {env : Env} {g r : Walk} {x : A} {σ : Log} → Solving env g → WalkKeeps g r (Ok x) → GoodIn r.unifier σ → Solving env r
+solving_kept {σ = σ} s k good =
+    let p = k.pays in
     let a = p.spent in
     let b = p.made in
     let c = p.noted in
@@ -126,24 +180,28 @@ solving_kept {σ = σ} s k z good =
     let j = s.entries in
     let o = s.opened in
     let l = k.log_grows in
-    let room = s.room in
-    let heap = room.heap in
-    let hand = room.hand in
-    let small = room.small in
+    let t = s.apart in
+    let u = k.stack in
+    let v = k.lo in
+    let x = s.lo in
+    let heap = s.room.heap in
+    let hand = s.room.hand in
+    let small = s.room.small in
     let len = k.len in
     record {
       budget = s.budget;
-      prepared = prepared_after s.prepared len k.grows k.below;
+      prepared = prepared_after s.prepared len k.grows (λ y q e. k.below y (omega arith) e);
       few = s.few;
-      laid = s.laid;
-      slot_inside = s.slot_inside;
+      slot_inside = λ y q. rw v (s.slot_inside y q);
+      lo = v ∙ x;
+      stack = u ∙ s.stack;
       fewer = omega arith;
       room = record { heap = omega arith; hand = omega arith; small = omega arith };
       slots = omega arith;
+      apart = omega arith;
+      opened = omega arith;
       entries = omega arith;
       counted = omega arith;
-      opened = omega arith;
-      running = z;
       σ = σ;
       good = good;
     }
@@ -151,10 +209,6 @@ solving_kept {σ = σ} s k z good =
 -- an outcome that is the same as another is refused as that is
 pub refuses_as : {w : List ℕ} {lo top left number : ℕ} {A : Type 0} {out out' : Outcome A} → out' ≡ out → Refuses w lo top left number out → Refuses w lo top left number out'
 refuses_as e h = record { why = h.why; log = h.log; is = e ∙ h.is; by_number = h.by_number; good = h.good }
-
--- it comes to what that comes to
-pub comes_as : {w : List ℕ} {lay : Layout} {r : Walk} {out out' : Outcome Log} → out' ≡ out → ComesTo w lay r out → ComesTo w lay r out'
-comes_as {w} {lay} {r} e h = subst (ComesTo w lay r) (sym e) h
 
 -- equations after some that are done
 pub append_done : (reg : Registry) (σ : Log) (s : ℕ) (es fs : List Equation) {σ₁ : Log} {s₁ : ℕ} → unify_all reg σ s es ≡ done σ₁ s₁ → unify_all reg σ s (es ++ fs) ≡ unify_all reg σ₁ s₁ fs
@@ -175,134 +229,110 @@ all_none : (reg : Registry) (σ : Log) (s : ℕ) (e : Equation) (es : List Equat
 unfolding unify_all and_then
 all_none reg σ s e es z = rw z (ap (λ o. and_then o (λ σ₁ s₁. unify_all reg σ₁ s₁ es)) (equation_none reg σ e))
 
--- the answer of `spent`
-abbrev pub spent_walk : Walk → Walk
-spent_walk g = record { left = g.left; top = g.top; refused = 13; next = g.next; log = g.log; at = g.at; counts = g.counts }
-
-keeps_spent : {w : List ℕ} {lay : Layout} {g r : Walk} → r ≡ spent_walk g → WalkKeeps w w lay g r
-keeps_spent {w} {lay} {g} e = subst (WalkKeeps w w lay g) (sym e) (record {
-  len = refl;
-  grows = omega arith;
-  below = λ k l m. refl;
-  names = λ k l m. refl;
-  entries = λ k l. refl;
-  fewer = omega arith;
-  log_grows = omega arith;
-  pays = λ z. absurd (omega arith);
-})
-
-spent_refused : {r : Walk} (g : Walk) → r ≡ spent_walk g → r.refused ≡ 0 → ⊥
-spent_refused g e z = let n = ap (λ (x : Walk). x.refused) e in omega arith
-
-spent_refuses : {w : List ℕ} {lo : ℕ} {r : Walk} (g : Walk) (reg : Registry) (σ : Log) (e : Equation) (es : List Equation) → g.left ≡ 0 → r ≡ spent_walk g → Good w lo g.top σ
-    → Refuses w lo r.top r.left r.refused (unify_all reg σ g.left (e ∷ es))
-unfolding number_of
-spent_refuses {w} {lo} g reg σ e es z q good =
-    subst (λ (r : Walk). Refuses w lo r.top r.left r.refused (unify_all reg σ g.left (e ∷ es))) (sym q)
-    (record { why = out_of_steps; log = σ; is = all_none reg σ g.left e es z; by_number = refl; good = good })
+-- no step was left for the first equation
+spent_refuses : (g : Walk) {why : Refusal} (reg : Registry) (σ : Log) (e : Equation) (es : List Equation) → HasStep g.unifier (Err why) → GoodIn g.unifier σ
+    → Refuses g.unifier.words.now g.unifier.lo g.unifier.top g.unifier.left (number why) (unify_all reg σ g.unifier.left (e ∷ es))
+unfolding number number_of
+spent_refuses g reg σ e es (z, q) good =
+    rw q (record { why = out_of_steps; log = σ; is = all_none reg σ g.unifier.left e es z; by_number = refl; good = good })
 
 -- the walk with another slot to be made next
 abbrev pub with_next : Walk → ℕ → Walk
-with_next g n = record { left = g.left; top = g.top; refused = g.refused; next = n; log = g.log; at = g.at; counts = g.counts }
+with_next g n = record g { next = n }
 
 -- slots that the steps spent pay for
-keeps_made : {w w' : List ℕ} {lay : Layout} {g r : Walk} {n : ℕ} → WalkKeeps w w' lay g r → (r.refused ≡ 0 → n + r.left ≤ g.next + g.left) → WalkKeeps w w' lay g (with_next r n)
-keeps_made k made = record {
+keeps_made : {A B : Type 0} {g r : Walk} {x : A} {n : ℕ} (y : B) → WalkKeeps g r (Ok x) → n + r.unifier.left ≤ g.next + g.unifier.left → WalkKeeps g (with_next r n) (Ok y)
+keeps_made y k made = record {
+  same = k.same;
   len = k.len;
+  lo = k.lo;
+  stack = k.stack;
   grows = k.grows;
   below = k.below;
-  names = k.names;
-  entries = k.entries;
+  logged = k.logged;
+  beyond = k.beyond;
   fewer = k.fewer;
   log_grows = k.log_grows;
-  pays = λ e. let p = k.pays e in record { spent = p.spent; made = made e; noted = p.noted; counted = p.counted };
+  pays = let p = k.pays in record { spent = p.spent; made = made; noted = p.noted; counted = p.counted; names = p.names };
 }
 
 -- some registry
 no_registry : Registry
 no_registry = record { treats_refs = false; hook_type = none; shapes = [] }
 
-module _ {w w₁ : List ℕ} {lay : Layout} {g g₁ : Walk} {es : List Equation} {m : ℕ} where
-  -- each equation has cost a step
-  pub solves_falls : {img : List ℕ} → Solving img w lay g → Solves es m w w₁ lay g g₁ → g₁.refused ≡ 0 → length es + g₁.left ≤ g.left
-  solves_falls s f z = unify_all_falls no_registry s.σ g.left es ((f.means no_registry s.σ s.good).finished z).1
+module _ {A : Type 0} {g r : Walk} {x : A} {es : List Equation} {m : ℕ} (f : Solves es m g r (Ok x)) where
+  module _ {env : Env} (s : Solving env g) where
+    -- each equation has cost a step
+    pub solves_falls : length es + r.unifier.left ≤ g.unifier.left
+    solves_falls = unify_all_falls no_registry s.σ g.unifier.left es (f.means no_registry s.σ s.good).1
 
-  -- as many slots are made after it as it has equations, or fewer
-  pub solves_made : {img : List ℕ} {k n : ℕ} → Solving img w lay g → Solves es m w w₁ lay g g₁ → k ≤ length es → n ≡ g.next + k → Solves es k w w₁ lay g (with_next g₁ n)
-  solves_made s f l q = record {
-    keeps = keeps_made f.keeps (λ z. omega (arith, solves_falls s f z));
-    log_same = f.log_same;
-    counts_same = f.counts_same;
-    plain = f.plain;
-    next = λ z. q;
-    means = λ reg σ good. let y = f.means reg σ good in record { finished = y.finished; ended = y.ended };
-  }
+    -- after a part that is done the next can ask the same
+    pub solving_on : Solving env r
+    solving_on = solving_kept s f.keeps (f.means no_registry s.σ s.good).2
 
-  -- after a part that was not refused the next can ask the same
-  pub solving_on : {img : List ℕ} → Solving img w lay g → Solves es m w w₁ lay g g₁ → g₁.refused ≡ 0 → Solving img w₁ lay g₁
-  solving_on s f z = solving_kept s f.keeps z ((f.means no_registry s.σ s.good).finished z).2
+    -- as many slots are made after it as it has equations, or fewer
+    pub solves_made : {B : Type 0} {k n : ℕ} (y : B) → k ≤ length es → n ≡ g.next + k → Solves es k g (with_next r n) (Ok y)
+    solves_made y l q = record {
+      keeps = keeps_made y f.keeps (omega (arith, solves_falls));
+      log_same = f.log_same;
+      counts_same = f.counts_same;
+      solved = record { plain = f.solved.plain; next = q };
+      means = f.means;
+    }
 
   -- the counts are as they were
-  pub solves_counts : (reg : Registry) (σ : Log) (s : ℕ) → Solves es m w w₁ lay g g₁ → g₁.refused ≡ 0 → counts_of g₁.counts ≡ count_lookups reg σ s (counts_of g.counts) es
-  solves_counts reg σ s f z = ap counts_of f.counts_same ∙ sym (count_plain reg σ s (counts_of g.counts) (f.plain z))
+  pub solves_counts : (reg : Registry) (σ : Log) (s : ℕ) → counts_of r.counts ≡ count_lookups reg σ s (counts_of g.counts) es
+  solves_counts reg σ s = ap counts_of f.counts_same ∙ sym (count_plain reg σ s (counts_of g.counts) f.solved.plain)
 
-  -- the same equations, another way
-  pub solves_same : {fs : List Equation} → es ≡ fs → Solves es m w w₁ lay g g₁ → Solves fs m w w₁ lay g g₁
-  solves_same e f = subst (λ (x : List Equation). Solves x m w w₁ lay g g₁) e f
+  -- whatever it answers
+  pub solves_value : {B : Type 0} (y : B) → Solves es m g r (Ok y)
+  solves_value y = record { keeps = keeps_value y f.keeps; log_same = f.log_same; counts_same = f.counts_same; solved = f.solved; means = f.means }
 
   -- one part after another
-  pub solves_then : {w₂ : List ℕ} {g₂ : Walk} {fs : List Equation} {n : ℕ} → Solves es m w w₁ lay g g₁ → g₁.refused ≡ 0 → Solves fs n w₁ w₂ lay g₁ g₂
-      → Solves (es ++ fs) (m + n) w w₂ lay g g₂
-  solves_then {fs = fs} f z h = record {
-    keeps = keeps_then f.keeps z h.keeps;
+  pub solves_then : {B : Type 0} {q : Walk} {fs : List Equation} {n : ℕ} (o : Result B Refusal) → Solves fs n r q o → Solves (es ++ fs) (m + n) g q o
+  solves_then {q = q} {fs} o h = record {
+    keeps = keeps_then o f.keeps h.keeps;
     log_same = h.log_same ∙ f.log_same;
     counts_same = h.counts_same ∙ f.counts_same;
-    plain = λ e. plain_append (f.plain z) (h.plain e);
-    next = λ e. omega (arith, f.next z, h.next e);
+    solved = ok_then o (λ y s. record { plain = plain_append f.solved.plain s.plain; next = omega (arith, f.solved.next, s.next) }) h.solved;
     means = λ reg σ good.
-        let y = (f.means reg σ good).finished z in
-        comes_as (append_done reg σ g.left es fs y.1) (h.means reg y.0 y.2);
+        let (τ, e, then) = f.means reg σ good in
+        comes_as (λ u y τ. GoodIn u τ) q.unifier o (append_done reg σ g.unifier.left es fs e) (h.means reg τ then);
   }
 
-  -- a part that was refused, and what was to come after it
-  pub solves_stopped : {n : ℕ} (fs : List Equation) → Solves es m w w₁ lay g g₁ → (g₁.refused ≡ 0 → ⊥) → Solves (es ++ fs) n w w₁ lay g g₁
-  solves_stopped fs f z = record {
-    keeps = f.keeps;
-    log_same = f.log_same;
-    counts_same = f.counts_same;
-    plain = λ e. absurd (z e);
-    next = λ e. absurd (z e);
-    means = λ reg σ good. record { finished = λ e. absurd (z e); ended = λ e. append_refused reg σ g.left es fs ((f.means reg σ good).ended e) };
-  }
+-- the same equations, another way
+pub solves_same : {A : Type 0} {g r : Walk} {es fs : List Equation} {m : ℕ} (o : Result A Refusal) → es ≡ fs → Solves es m g r o → Solves fs m g r o
+solves_same {g = g} {r} {m = m} o e f = subst (λ (x : List Equation). Solves x m g r o) e f
 
-  -- a part, and one that is tried after it
-  pub solves_next : {w₂ : List ℕ} {g₂ : Walk} {fs : List Equation} → Solves es m w w₁ lay g g₁ → SolvesNext fs w₁ w₂ lay g₁ g₂ → Solves (es ++ fs) m w w₂ lay g g₂
-  solves_next {w₂} {g₂} {fs} f h =
-      by_zero g₁.refused
-      (λ z. subst (λ (n : ℕ). Solves (es ++ fs) n w w₂ lay g g₂) (omega arith) (solves_then f z (h.solves z)))
-      (λ z. let k = h.kept z in rw (k.0, k.1) (solves_stopped fs f z))
+-- a part that was refused, and what was to come after it
+pub solves_stopped : {A B : Type 0} {g r : Walk} {es : List Equation} {m n : ℕ} {why : Refusal} (fs : List Equation) → Solves {A = A} es m g r (Err why) → Solves {A = B} (es ++ fs) n g r (Err why)
+solves_stopped {g = g} {es = es} fs f = record {
+  keeps = keeps_refused f.keeps;
+  log_same = f.log_same;
+  counts_same = f.counts_same;
+  solved = tt;
+  means = λ reg σ good. append_refused reg σ g.unifier.left es fs (f.means reg σ good);
+}
 
 -- no equation
-pub solves_none : {w : List ℕ} {lay : Layout} {g : Walk} → g.refused ≡ 0 → Solves [] 0 w w lay g g
+pub solves_none : {A : Type 0} {g : Walk} (x : A) → Solves [] 0 g g (Ok x)
 unfolding unify_all
-solves_none z = record {
-  keeps = keeps_all;
+solves_none x = record {
+  keeps = keeps_all (Ok x);
   log_same = refl;
   counts_same = refl;
-  plain = λ e. plain_none;
-  next = λ e. omega arith;
-  means = λ reg σ good. record { finished = λ e. (σ, refl, good); ended = λ e. absurd (e z) };
+  solved = record { plain = plain_none; next = omega arith };
+  means = λ reg σ good. (σ, refl, good);
 }
 
 -- no step left for the first equation
-pub solves_spent : {w : List ℕ} {lay : Layout} {g r : Walk} {e : Equation} {es : List Equation} {m : ℕ} → g.left ≡ 0 → r ≡ spent_walk g → Solves (e ∷ es) m w w lay g r
-solves_spent {g = g} {e = e} {es} z q = record {
-  keeps = keeps_spent q;
-  log_same = ap (λ (x : Walk). x.log) q;
-  counts_same = ap (λ (x : Walk). x.counts) q;
-  plain = λ n. absurd (spent_refused g q n);
-  next = λ n. absurd (spent_refused g q n);
-  means = λ reg σ good. record { finished = λ n. absurd (spent_refused g q n); ended = λ n. spent_refuses g reg σ e es z q good };
+pub solves_spent : {A : Type 0} {g : Walk} {e : Equation} {es : List Equation} {m : ℕ} {why : Refusal} → HasStep g.unifier (Err why) → Solves {A = A} (e ∷ es) m g g (Err why)
+solves_spent {g = g} {e} {es} {why = why} z = record {
+  keeps = keeps_all (Err why);
+  log_same = refl;
+  counts_same = refl;
+  solved = tt;
+  means = λ reg σ good. spent_refuses g reg σ e es z good;
 }
 
 -- a stretch of the names log stays so where its words do
@@ -312,148 +342,161 @@ logged_same {img} {bytes} same (one_logged {to} {k} e l id inside name h) =
     let second = same (k + 1) (omega arith) (omega arith) in
     one_logged {to = to} {k = k} e l (same k l (omega arith) ∙ id) (omega arith) (ap (name_at img bytes) second ∙ name) (logged_same (λ j a b. same j a (omega arith)) h)
 
-module _ {img bytes w w₁ : List ℕ} {lay : Layout} {stretch : ℕ} {g g₁ : Walk} where
+-- the names of an image that passed the check
+pub names_in : {env : Env} {g : Walk} → Ready env g → NamesInside env.image.now env.names.now
+names_in a = let d = checked a.passed in names_inside _ _ (laid _ d.long d.short d.header) d.few d.references
+
+module _ {env : Env} {g : Walk} (a : Ready env g) where
+  -- where the names log of a function is
+  pub log_beyond : g.unifier.stack + g.unifier.left ≤ g.names
+  log_beyond = let x = a.solving.apart in let y = a.opened in omega arith
+
+  -- what was logged is so after a part that is done
+  pub logged_on : {A : Type 0} {r : Walk} {x : A} {ns : NamesLog} → WalkKeeps g r (Ok x) → LoggedIn env g ns → r.log ≡ g.log → LoggedIn env r ns
+  logged_on k logged e = rw (k.pays.names, e) (logged_same (λ j l b. k.logged j (omega (arith, log_beyond)) b) logged)
+
+  ran_solved : {A : Type 0} {r : Walk} {es : List Equation} {m : ℕ} (o : Result A Refusal) → Solves es m g r o → (σ : Log) (ns : NamesLog) → GoodIn g.unifier σ → LoggedIn env g ns
+      → Ran env g r o σ (record { equations = es; names = ns; slots = g.next + m })
+  ran_solved (Ok x) f σ ns good logged =
+      let (τ, e, then) = f.means (registry_in env) σ good in
+      record { log = τ; is = e; good = then; logged = logged_on f.keeps logged f.log_same; slots = f.solved.next; counts = solves_counts f (registry_in env) σ g.unifier.left }
+  ran_solved (Err why) f σ ns good logged = f.means (registry_in env) σ good
+
   -- a part that logs no name
-  pub generates_of : {gen : NamesLog → ℕ → Generated} {es : List Equation} {m : ℕ} → Ready img bytes w lay stretch g → Solves es m w w₁ lay g g₁
-      → ((ns : NamesLog) → gen ns g.next ≡ record { equations = es; names = ns; slots = g.next + m }) → Generates gen img bytes w w₁ lay stretch g g₁
-  generates_of {gen} {es} {m} a f e = record {
-    keeps = f.keeps;
-    means = λ σ ns good logged.
-        let o = a.opened in
-        let y = f.means (registry_of img bytes) σ good in
-        let same : Same w w₁ stretch g.log = λ k l b. f.keeps.names k (omega arith) b in
-        rw (e ns) (record {
-          finished = λ z. ((y.finished z).0, (y.finished z).1, (y.finished z).2, rw f.log_same (logged_same same logged), f.next z);
-          counts = solves_counts (registry_of img bytes) σ g.left f;
-          ended = y.ended;
-        });
-  }
+  pub generates_of : {A : Type 0} {r : Walk} {gen : NamesLog → ℕ → Generated} {es : List Equation} {m : ℕ} (o : Result A Refusal) → Solves es m g r o
+      → ((ns : NamesLog) → gen ns g.next ≡ record { equations = es; names = ns; slots = g.next + m }) → Generates gen env g r o
+  generates_of o f e = record { keeps = f.keeps; means = λ σ ns good logged. rw (e ns) (ran_solved o f σ ns good logged) }
 
   -- a part that logs no name and makes no slot
-  pub generates_only : {es : List Equation} → Ready img bytes w lay stretch g → Solves es 0 w w₁ lay g g₁ → Generates (only es) img bytes w w₁ lay stretch g g₁
+  pub generates_only : {A : Type 0} {r : Walk} {es : List Equation} (o : Result A Refusal) → Solves es 0 g r o → Generates (only es) env g r o
   unfolding only
-  generates_only {es} a f = generates_of a f (λ ns. ap (λ (n : ℕ). record { equations = es; names = ns; slots = n }) (omega arith))
+  generates_only {es = es} o f = generates_of o f (λ ns. ap (λ (n : ℕ). record { equations = es; names = ns; slots = n }) (omega arith))
 
-  module _ {gen : NamesLog → ℕ → Generated} where
-    -- after a part that was not refused the next can ask the same
-    pub ready_on : Ready img bytes w lay stretch g → Generates gen img bytes w w₁ lay stretch g g₁ → g₁.refused ≡ 0 → Ready img bytes w₁ lay stretch g₁
-    ready_on a f z =
-        let y = (f.means a.solving.σ a.names a.solving.good a.logged).finished z in
+  module _ {A : Type 0} {r : Walk} {x : A} {gen : NamesLog → ℕ → Generated} (f : Generates gen env g r (Ok x)) where
+    -- after a part that is done the next can ask the same
+    pub ready_on : Ready env r
+    ready_on =
+        let y = f.means a.solving.σ a.names a.solving.good a.logged in
         let i = a.begun in
         let j = f.keeps.log_grows in
+        let o = a.opened in
+        let e = f.keeps.pays.names in
         record {
           budget = a.budget;
           passed = a.passed;
-          solving = solving_kept a.solving f.keeps z y.2;
-          opened = a.opened;
+          solving = solving_kept a.solving f.keeps y.good;
+          opened = omega arith;
           begun = omega arith;
           names = (gen a.names g.next).names;
-          logged = y.3;
+          logged = y.logged;
         }
 
     -- each equation has cost a step
-    pub generates_falls : (a : Ready img bytes w lay stretch g) → Generates gen img bytes w w₁ lay stretch g g₁ → g₁.refused ≡ 0 → length (gen a.names g.next).equations + g₁.left ≤ g.left
-    generates_falls a f z =
-        unify_all_falls (registry_of img bytes) a.solving.σ g.left (gen a.names g.next).equations ((f.means a.solving.σ a.names a.solving.good a.logged).finished z).1
+    pub generates_falls : length (gen a.names g.next).equations + r.unifier.left ≤ g.unifier.left
+    generates_falls =
+        unify_all_falls (registry_in env) a.solving.σ g.unifier.left (gen a.names g.next).equations (f.means a.solving.σ a.names a.solving.good a.logged).is
 
     -- as many slots are made after it as it has equations, or fewer
-    pub generates_made : {gen' : NamesLog → ℕ → Generated} {k n : ℕ} → Ready img bytes w lay stretch g → Generates gen img bytes w w₁ lay stretch g g₁
+    pub generates_made : {B : Type 0} {gen' : NamesLog → ℕ → Generated} {k n : ℕ} (y : B)
         → ((ns : NamesLog) → k ≤ length (gen ns g.next).equations) → n ≡ g.next + k
         → ((ns : NamesLog) → gen' ns g.next ≡ record { equations = (gen ns g.next).equations; names = (gen ns g.next).names; slots = g.next + k })
-        → Generates gen' img bytes w w₁ lay stretch g (with_next g₁ n)
-    generates_made a f l q e = record {
-      keeps = keeps_made f.keeps (λ z. omega (arith, generates_falls a f z, l a.names));
+        → Generates gen' env g (with_next r n) (Ok y)
+    generates_made y l q e = record {
+      keeps = keeps_made y f.keeps (omega (arith, generates_falls, l a.names));
       means = λ σ ns good logged.
-          let y = f.means σ ns good logged in
-          rw (e ns) (record { finished = λ z. let x = y.finished z in (x.0, x.1, x.2, x.3, q); counts = y.counts; ended = y.ended });
+          let h = f.means σ ns good logged in rw (e ns) (record { log = h.log; is = h.is; good = h.good; logged = h.logged; slots = q; counts = h.counts });
     }
 
-    -- the same part, another way
-    pub generates_same : {gen' : NamesLog → ℕ → Generated} → ((ns : NamesLog) → gen ns g.next ≡ gen' ns g.next) → Generates gen img bytes w w₁ lay stretch g g₁
-        → Generates gen' img bytes w w₁ lay stretch g g₁
-    generates_same e f = record {
-      keeps = f.keeps;
-      means = λ σ ns good logged. subst (Ran img bytes w₁ lay stretch g g₁ σ) (e ns) (f.means σ ns good logged);
+-- what one part came to, and then another
+ran_then : {B : Type 0} (env : Env) (g r q : Walk) (o : Result B Refusal) (σ τ : Log) (a : Generated) (gen : NamesLog → ℕ → Generated)
+    → unify_all (registry_in env) σ g.unifier.left a.equations ≡ done τ r.unifier.left
+    → counts_of r.counts ≡ count_lookups (registry_in env) σ g.unifier.left (counts_of g.counts) a.equations
+    → Ran env r q o τ (gen a.names a.slots) → Ran env g q o σ (followed_by a gen)
+unfolding followed_by
+ran_then env g r q (Ok z) σ τ a gen is counted x =
+    let reg = registry_in env in
+    let es = (gen a.names a.slots).equations in
+    record {
+      log = x.log;
+      is = append_done reg σ g.unifier.left a.equations es is ∙ x.is;
+      good = x.good;
+      logged = x.logged;
+      slots = x.slots;
+      counts =
+          x.counts
+          ∙ ap (λ c. count_lookups reg τ r.unifier.left c es) counted
+          ∙ sym (count_append reg σ g.unifier.left (counts_of g.counts) a.equations es is);
     }
+ran_then env g r q (Err why) σ τ a gen is counted x =
+    refuses_as (append_done (registry_in env) σ g.unifier.left a.equations (gen a.names a.slots).equations is) x
 
+module _ {env : Env} {g r : Walk} {gen : NamesLog → ℕ → Generated} where
+  -- the same part, another way
+  pub generates_same : {A : Type 0} {gen' : NamesLog → ℕ → Generated} (o : Result A Refusal) → ((ns : NamesLog) → gen ns g.next ≡ gen' ns g.next) → Generates gen env g r o
+      → Generates gen' env g r o
+  generates_same o e f = record { keeps = f.keeps; means = λ σ ns good logged. subst (Ran env g r o σ) (e ns) (f.means σ ns good logged) }
+
+  -- whatever it answers
+  pub generates_value : {A B : Type 0} {x : A} (y : B) → Generates gen env g r (Ok x) → Generates gen env g r (Ok y)
+  generates_value y f = record { keeps = keeps_value y f.keeps; means = f.means }
+
+  -- a part that was refused: only its equations count
+  pub generates_refused : {A B : Type 0} {gen' : NamesLog → ℕ → Generated} {why : Refusal} → ((ns : NamesLog) → (gen' ns g.next).equations ≡ (gen ns g.next).equations)
+      → Generates {A = A} gen env g r (Err why) → Generates {A = B} gen' env g r (Err why)
+  generates_refused e f = record { keeps = keeps_refused f.keeps; means = λ σ ns good logged. rw (e ns) (f.means σ ns good logged) }
+
+  module _ {gen' : NamesLog → ℕ → Generated} where
     -- one part after another
-    pub generates_then : {gen' : NamesLog → ℕ → Generated} {w₂ : List ℕ} {g₂ : Walk} → Generates gen img bytes w w₁ lay stretch g g₁ → g₁.refused ≡ 0
-        → Generates gen' img bytes w₁ w₂ lay stretch g₁ g₂ → Generates (λ ns k. followed_by (gen ns k) gen') img bytes w w₂ lay stretch g g₂
-    unfolding followed_by
-    generates_then {gen'} {w₂} {g₂} f z h = record {
-      keeps = keeps_then f.keeps z h.keeps;
-      means = λ σ ns good logged.
-          let reg = registry_of img bytes in
-          let a = gen ns g.next in
-          let y = (f.means σ ns good logged).finished z in
-          let x : Ran img bytes w₂ lay stretch g₁ g₂ y.0 (gen' a.names a.slots) =
-          subst (λ (k : ℕ). Ran img bytes w₂ lay stretch g₁ g₂ y.0 (gen' a.names k)) y.4 (h.means y.0 a.names y.2 y.3) in
-          let es = (gen' a.names a.slots).equations in
-          let e = append_done reg σ g.left a.equations es y.1 in
-          record {
-            finished = λ n. let q = x.finished n in (q.0, e ∙ q.1, q.2, q.3, q.4);
-            counts = λ n.
-                x.counts n
-                ∙ ap (λ c. count_lookups reg y.0 g₁.left c es) ((f.means σ ns good logged).counts z)
-                ∙ sym (count_append reg σ g.left (counts_of g.counts) a.equations es y.1);
-            ended = λ n. refuses_as e (x.ended n);
-          };
-    }
-
-    -- a part that was refused, and what was to come after it
-    pub generates_stopped : (gen' : NamesLog → ℕ → Generated) → Generates gen img bytes w w₁ lay stretch g g₁ → (g₁.refused ≡ 0 → ⊥)
-        → Generates (λ ns k. followed_by (gen ns k) gen') img bytes w w₁ lay stretch g g₁
-    unfolding followed_by
-    generates_stopped gen' f z = record {
-      keeps = f.keeps;
+    pub generates_then : {A B : Type 0} {q : Walk} {x : A} (o : Result B Refusal) → Generates gen env g r (Ok x) → Generates gen' env r q o
+        → Generates (λ ns k. followed_by (gen ns k) gen') env g q o
+    generates_then {q = q} o f h = record {
+      keeps = keeps_then o f.keeps h.keeps;
       means = λ σ ns good logged.
           let a = gen ns g.next in
-          record {
-            finished = λ n. absurd (z n);
-            counts = λ n. absurd (z n);
-            ended = λ n. append_refused (registry_of img bytes) σ g.left a.equations (gen' a.names a.slots).equations ((f.means σ ns good logged).ended n);
-          };
+          let y = f.means σ ns good logged in
+          ran_then env g r q o σ y.log a gen' y.is y.counts (subst (λ (k : ℕ). Ran env r q o y.log (gen' a.names k)) y.slots (h.means y.log a.names y.good y.logged));
     }
 
-module _ {img bytes w : List ℕ} {lay : Layout} {stretch : ℕ} {g : Walk} where
-  -- no equation
-  pub generates_none : g.refused ≡ 0 → Generates (only []) img bytes w w lay stretch g g
-  unfolding only unify_all count_lookups
-  generates_none z = record {
-    keeps = keeps_all;
-    means = λ σ ns good logged. record { finished = λ e. (σ, refl, good, logged, refl); counts = λ e. refl; ended = λ e. absurd (e z) };
+  -- a part that was refused, and what was to come after it
+  pub generates_stopped : {A B : Type 0} {why : Refusal} (gen' : NamesLog → ℕ → Generated) → Generates {A = A} gen env g r (Err why)
+      → Generates {A = B} (λ ns k. followed_by (gen ns k) gen') env g r (Err why)
+  unfolding followed_by
+  generates_stopped gen' f = record {
+    keeps = keeps_refused f.keeps;
+    means = λ σ ns good logged.
+        let a = gen ns g.next in append_refused (registry_in env) σ g.unifier.left a.equations (gen' a.names a.slots).equations (f.means σ ns good logged);
   }
 
+module _ {env : Env} {g : Walk} where
+  -- no equation
+  pub generates_none : {A : Type 0} (x : A) → Generates (only []) env g g (Ok x)
+  unfolding only unify_all count_lookups
+  generates_none x = record { keeps = keeps_all (Ok x); means = λ σ ns good logged. record { log = σ; is = refl; good = good; logged = logged; slots = refl; counts = refl } }
+
   -- no step left for the first equation
-  pub generates_spent : {gen : NamesLog → ℕ → Generated} {r : Walk} → ((ns : NamesLog) → (e : Equation) × (es : List Equation) × ((gen ns g.next).equations ≡ e ∷ es))
-      → g.left ≡ 0 → r ≡ spent_walk g → Generates gen img bytes w w lay stretch g r
-  generates_spent some z q = record {
-    keeps = keeps_spent q;
-    means = λ σ ns good logged.
-        let x = some ns in
-        record {
-          finished = λ n. absurd (spent_refused g q n);
-          counts = λ n. absurd (spent_refused g q n);
-          ended = λ n. rw x.2 (spent_refuses g (registry_of img bytes) σ x.0 x.1 z q good);
-        };
+  pub generates_spent : {A : Type 0} {gen : NamesLog → ℕ → Generated} {why : Refusal} → ((ns : NamesLog) → (e : Equation) × (es : List Equation) × ((gen ns g.next).equations ≡ e ∷ es))
+      → HasStep g.unifier (Err why) → Generates {A = A} gen env g g (Err why)
+  generates_spent {why = why} some z = record {
+    keeps = keeps_all (Err why);
+    means = λ σ ns good logged. let x = some ns in rw x.2 (spent_refuses g (registry_in env) σ x.0 x.1 z good);
   }
 
 -- the nodes at hand
-module _ {img w : List ℕ} {lay : Layout} {g : Walk} (s : Solving img w lay g) where
+module _ {env : Env} {g : Walk} (s : Solving env g) where
   -- the Primitive
-  pub prim_rep : Rep w lay.lo g.top lay.own prim
-  prim_rep = s.prepared.own.prim_node
+  pub prim_rep : RepIn g.unifier env.lay.own prim
+  prim_rep = rw s.lo s.prepared.own.prim_node
 
   -- the ObjectMethod
-  pub method_rep : Rep w lay.lo g.top (lay.own + 3) method
-  method_rep = s.prepared.own.method_node
+  pub method_rep : RepIn g.unifier (env.lay.own + 3) method
+  method_rep = rw s.lo s.prepared.own.method_node
 
   -- the Object of a shape up to REF_VALUE
-  pub object_rep : (shape : ℕ) → shape < 8 → Rep w lay.lo g.top (lay.own + 6 + 3 * shape) (object shape)
-  object_rep shape l = s.prepared.own.object_node shape l
+  pub object_rep : (shape : ℕ) → shape < 8 → RepIn g.unifier (env.lay.own + 6 + 3 * shape) (object shape)
+  object_rep shape l = rw s.lo (s.prepared.own.object_node shape l)
 
   -- their numbers fit a word
-  pub own_fits : lay.own + 30 < 4294967296
+  pub own_fits : env.lay.own + 30 < 4294967296
   own_fits =
       let f = layout_at s.prepared.is in
       let b = s.prepared.begun in
@@ -463,14 +506,14 @@ module _ {img w : List ℕ} {lay : Layout} {g : Walk} (s : Solving img w lay g) 
       omega arith
 
   -- the Var of the slot that is made next, where a step is left
-  pub made_rep : (g.left ≡ 0 → ⊥) → Rep w lay.lo g.top g.next (var g.next)
+  pub made_rep : (g.unifier.left ≡ 0 → ⊥) → RepIn g.unifier g.next (var g.next)
   made_rep z = let h = s.slots in rep_var {n = g.next} (omega arith) refl
 
   -- its number, and the one after it, fit a word
-  pub next_fits : (g.left ≡ 0 → ⊥) → g.next + 1 < 4294967296
-  next_fits z = let l = s.slots in let f = layout_at s.prepared.is in omega (arith, own_fits)
+  pub next_fits : (g.unifier.left ≡ 0 → ⊥) → g.next + 1 < 4294967296
+  next_fits z = let l = s.slots in let e = s.lo in let f = layout_at s.prepared.is in omega (arith, own_fits)
 
   -- the Var of the identifier at a position
-  pub place_rep : (k : ℕ) → word img k < count Identifiers img → Rep w lay.lo g.top (cell Identifiers img (word img k) 0) (place_type img k)
+  pub place_rep : (k : ℕ) → word env.image.now k < count Identifiers env.image.now → RepIn g.unifier (cell Identifiers env.image.now (word env.image.now k) 0) (place_type env.image.now k)
   unfolding place_type
-  place_rep k l = rep_var (s.slot_inside (word img k) l) refl
+  place_rep k l = rep_var (s.slot_inside (word env.image.now k) l) refl

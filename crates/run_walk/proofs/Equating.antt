@@ -1,30 +1,23 @@
 -- `equal` and `equal_made`: one equation, with what it asks of `unify` and what it comes to. Assumes nothing.
-use Rattle.std.proofs.Common.{◌≡◌, refl, ◌∙◌, ℕ, ◌+◌, ◌*◌, ◌-◌, ◌≤◌, ◌<◌, arith, List, [], ◌∷◌, length, Result, Ok, Err, MutBor}
-use Rattle.image.specs.Refusals.{refused as number_of_outcome}
+use Rattle.std.proofs.Common.{◌≡◌, refl, sym, ap, ◌∙◌, ℕ, ◌+◌, ◌*◌, ◌≤◌, ◌<◌, arith, List, [], ◌∷◌, length, Result, Err}
 use Rattle.image.specs.declared.refusal.Refusal.{Refusal}
 use Rattle.image.specs.Ty.{Ty}
 use Rattle.unifier_definition.specs.Log.{Log}
 use Rattle.unifier_definition.specs.Outcome.{Outcome, done, refused, and_then}
 use Rattle.unifier_definition.specs.Property.{Registry}
-use Rattle.unifier_definition.specs.Unify.{Equation, ◌≐◌, unify_equation, unify_all}
-use Rattle.unifier_nodes.specs.Work.{Rep, rep_func, rep_phi, Good, Room, Frame}
-use Rattle.unifier_nodes.specs.Walks.{Wrote, Refuses}
-use Rattle.unifier_nodes.specs.States.{charged, KnownBoth, ComesTo}
-use Rattle.unifier_nodes.specs.Promises.{LogIn, UnifiesNodes}
+use Rattle.unifier_definition.specs.Unify.{Equation, ◌≐◌, unify, unify_equation, unify_all}
+use Rattle.unifier_nodes.specs.Work.{Rep, rep_func, rep_phi, Frame}
+use Rattle.unifier_nodes.specs.Walks.{Wrote}
+use Rattle.unifier_nodes.specs.States.{charged, with_made, GoodIn, RepIn, RoomIn, KnownBoth}
+use Rattle.unifier_nodes.specs.Promises.{UnifiesNodes}
 use Rattle.unifier_nodes.specs.declared.state.Unifier.{Unifier}
 use Rattle.unifier_nodes.proofs.Frames.{rep_same, reps_same, good_same, frame_refl, frame_from, frame_trans, wrote_frame}
-use Rattle.unifier_nodes.proofs.Promised.{refuses_number}
-use Rattle.run_walk.specs.Solving.{Solving, WalkKeeps, plain_none, plain_one, Solves, EqualAsked, Equates, Makes, makes_function, makes_phi, MadeAsked, EquatesMade}
-use Rattle.run_layout.specs.declared.Layout.{Layout}
+use Rattle.unifier_nodes.proofs.Promised.{comes_as}
+use Rattle.unifier_nodes.proofs.Words.{wrote}
+use Rattle.run_reading.specs.declared.env.Env.{Env}
+use Rattle.run_walk.specs.Solving.{Solving, WalkKeeps, plain_none, plain_one, HasStep, Solves, EqualAsked, Equates, Makes, makes_function, makes_phi, MadeAsked, EquatesMade}
 use Rattle.run_walk.specs.declared.Walk.{Walk}
-use Rattle.run_walk.proofs.Composing.{layout_at, comes_as, spent_walk, solves_spent}
-
--- the unifier of a walk, over these words and with its next node at a top; and the walk after it came to this
-abbrev pub starts : MutBor (List ℕ) → Layout → Walk → ℕ → Unifier
-starts words lay g top = record { words = words; lo = lay.lo; left = g.left; top = top; stack = lay.stack }
-
-abbrev pub walk_after : Walk → Unifier → Result (Unit {0}) Refusal → Walk
-walk_after g u r = record { left = u.left; top = u.top; refused = number_of_outcome r; next = g.next; log = g.log; at = g.at; counts = g.counts }
+use Rattle.run_walk.proofs.Composing.{if_ok, solves_spent}
 
 then_nothing : (o : Outcome Log) → and_then o done ≡ o
 unfolding and_then
@@ -36,79 +29,64 @@ pub one_equation : (reg : Registry) (σ : Log) (s : ℕ) (e : Equation) → unif
 unfolding unify_all
 one_equation reg σ s e = then_nothing (unify_equation reg σ s e)
 
--- the names log and the slots' types lie past what the unifier may need
-pub log_beyond : {img w : List ℕ} {lay : Layout} {g : Walk} → Solving img w lay g → (lay.stack + g.left ≤ lay.log) × (lay.log ≤ lay.entries)
-log_beyond s = let l = layout_at s.prepared.is in let n = s.fewer in (omega arith, omega arith)
-
--- what it came to, by number
-pub by_number : (u : Unifier) {lo : ℕ} {out : Outcome Log} (r : Result (Unit {0}) Refusal) → u.lo ≡ lo → ComesTo LogIn u r out
-    → (number_of_outcome r ≡ 0 → (σ : Log) × (out ≡ done σ u.left) × Good u.words.now lo u.top σ) × ((number_of_outcome r ≡ 0 → ⊥) → Refuses u.words.now lo u.top u.left (number_of_outcome r) out)
-unfolding number_of_outcome
-by_number u (Ok x) e h = (λ z. (h.0, h.1, rw (← e) h.2), λ z. absurd (z refl))
-by_number u (Err why) e h = (λ z. absurd (refuses_number h z), λ z. rw (← e) h)
+-- the walk after its unifier came to this
+abbrev pub walk_after : Walk → Unifier → Walk
+walk_after g u = record g { unifier = u }
 
 -- one equation is unified, after nodes were put that its step pays for
-module _ {img w : List ℕ} {lay : Layout} {g : Walk} {words : MutBor (List ℕ)} {top a b : ℕ} {u : Unifier} (r : Result (Unit {0}) Refusal) (s : Solving img w lay g)
-    (before : Frame w words.now lay.lo g.top top lay.stack g.left) (good_then : (σ : Log) → Good w lay.lo g.top σ → Good words.now lay.lo top σ)
-    (h : UnifiesNodes (starts words lay g top) a b u r) where
-  keeps_one : (number_of_outcome r ≡ 0 → u.top + 4 * u.left ≤ g.top + 4 * g.left) → WalkKeeps w u.words.now lay g (walk_after g u r)
-  keeps_one pay =
-      let (l, n) = log_beyond s in
-      let p = h.binds.keeps.paid in
-      let f = frame_trans (omega arith) (omega arith) before h.binds.keeps.frame in
+module _ {env : Env} {g : Walk} {v : Unifier} {a b : ℕ} {u : Unifier} (r : Result (Unit {0}) Refusal) (s : Solving env g)
+    (same : v.words.ghost_name ≡ g.unifier.words.ghost_name) (lo : v.lo ≡ g.unifier.lo) (stack : v.stack ≡ g.unifier.stack) (left : v.left ≡ g.unifier.left)
+    (before : Frame g.unifier.words.now v.words.now g.unifier.lo g.unifier.top v.top g.unifier.stack g.unifier.left)
+    (h : UnifiesNodes v a b u r) (pay : u.top + 4 * u.left ≤ g.unifier.top + 4 * g.unifier.left) where
+  keeps_one : WalkKeeps g (walk_after g u) r
+  keeps_one =
+      let k = h.binds.keeps in
+      let p = k.paid.fewer in
+      let x = s.apart in
+      let y = s.opened in
+      let then : Frame v.words.now u.words.now g.unifier.lo v.top u.top g.unifier.stack g.unifier.left = rw (← lo, ← stack, ← left) k.frame in
+      let f = frame_trans (omega arith) (omega arith) before then in
       record {
+        same = k.same ∙ same;
         len = f.len;
+        lo = k.lo ∙ lo;
+        stack = k.stack ∙ stack;
         grows = f.grows;
         below = f.below;
-        names = λ k o m. f.beyond k (omega arith);
-        entries = λ k o. f.beyond k (omega arith);
-        fewer = p.fewer;
+        logged = λ j l m. f.beyond j (omega arith);
+        beyond = λ j l. f.beyond j (omega arith);
+        fewer = omega arith;
         log_grows = omega arith;
-        pays = λ e. let q = pay e in record { spent = q; made = omega arith; noted = omega arith; counted = omega arith };
+        pays = if_ok r (λ x. record { spent = pay; made = omega arith; noted = omega arith; counted = omega arith; names = refl });
       }
 
-  solves_one : {t v : Ty} → (number_of_outcome r ≡ 0 → u.top + 4 * u.left ≤ g.top + 4 * g.left) → Rep words.now lay.lo top a t → Rep words.now lay.lo top b v
-      → Solves (t ≐ v ∷ []) 0 w u.words.now lay g (walk_after g u r)
+  solves_one : {t w : Ty} → ((σ : Log) → GoodIn g.unifier σ → GoodIn v σ) → RepIn v a t → RepIn v b w → Solves (t ≐ w ∷ []) 0 g (walk_after g u) r
   unfolding unify_equation
-  solves_one {t} {v} pay q q' = record {
-    keeps = keeps_one pay;
+  solves_one {t} {w} then p q = record {
+    keeps = keeps_one;
     log_same = refl;
     counts_same = refl;
-    plain = λ e. plain_one plain_none;
-    next = λ e. omega arith;
+    solved = if_ok r (λ x. record { plain = plain_one plain_none; next = omega arith });
     means = λ reg σ good.
-        let (finished, ended) = by_number u r h.binds.keeps.lo (h.binds.means σ (t, v) (good_then σ good) (q, q')) in
-        comes_as (one_equation reg σ g.left (t ≐ v)) (record { finished = finished; ended = ended });
+        comes_as (λ y x τ. GoodIn y τ) u r (one_equation reg σ g.unifier.left (t ≐ w) ∙ ap (λ (s : ℕ). unify σ s t w) (sym left))
+        (h.binds.means σ (t, w) (then σ good) (p, q));
   }
 
 -- room after a charge
-room_less : {w : List ℕ} {top left stack : ℕ} → Room w top left stack → Room w top (left - 1) stack
-room_less r = let a = r.heap in let b = r.hand in record { heap = omega arith; hand = omega arith; small = r.small }
+room_less : (u : Unifier) → RoomIn u → RoomIn (charged u)
+room_less u r = let a = r.heap in let b = r.hand in record { heap = omega arith; hand = omega arith; small = r.small }
 
 -- `equal`
-module _ {lay : Layout} {g : Walk} {a b : ℕ} where
-  -- what was refused stays so
-  pub equates_kept : {w : List ℕ} → (g.refused ≡ 0 → ⊥) → Equates w w lay g a b g
-  equates_kept z = record { means = λ t u h. record { kept = λ e. (refl, refl); solves = λ e. absurd (z e) } }
+module _ {g : Walk} {a b : ℕ} (h : EqualAsked g a b) where
+  -- what `unify` asks
+  pub equal_calls : KnownBoth (charged g.unifier) a b
+  equal_calls = record { room = room_less g.unifier h.solving.room; σ = h.solving.σ; t = h.t; v = h.v; good = h.solving.good; left = h.stand.left; right = h.stand.right }
 
-  module _ {words : MutBor (List ℕ)} (h : EqualAsked words.now lay g a b) where
-    -- what `unify` asks
-    pub equal_calls : KnownBoth (charged (starts words lay g g.top)) a b
-    equal_calls =
-        record { room = room_less h.solving.room; σ = h.solving.σ; t = h.t; v = h.u; good = h.solving.good; left = h.stand.left; right = h.stand.right }
-
-    pub equates : {u : Unifier} {q : Walk} (r : Result (Unit {0}) Refusal) → UnifiesNodes (starts words lay g g.top) a b u r → q ≡ walk_after g u r → Equates words.now u.words.now lay g a b q
-    equates r f e =
-        rw e (record {
-          means = λ t v k. record {
-            kept = λ z. absurd (z h.solving.running);
-            solves = λ z. solves_one r h.solving (frame_refl words.now lay.lo g.top lay.stack g.left) (λ σ good. good) f (λ n. f.binds.keeps.paid.spent) (k z).left (k z).right;
-          };
-        })
-
--- the words as the unifier left them
-pub equates_as : {w u v : List ℕ} {lay : Layout} {g : Walk} {a b : ℕ} {q : Walk} → v ≡ u → Equates w u lay g a b q → Equates w v lay g a b q
-equates_as e h = rw e h
+  pub equates : {u : Unifier} (r : Result (Unit {0}) Refusal) → UnifiesNodes g.unifier a b u r → Equates g a b (walk_after g u) r
+  equates r f = record {
+    means = λ t v k.
+        solves_one r h.solving refl refl refl refl (frame_refl g.unifier.words.now g.unifier.lo g.unifier.top g.unifier.stack g.unifier.left) f f.binds.keeps.paid.spent (λ σ good. good) k.left k.right;
+  }
 
 -- the node that was put stands for what it should
 made_node : {w v : List ℕ} {lo top kind x y : ℕ} {u : Ty} → lo ≤ top → Wrote w v top kind x y → Makes w lo top kind x y u → Rep v lo (top + 3) top u
@@ -119,59 +97,55 @@ made_node {v = v} {top = top} l h (makes_phi e n q) =
     (reps_same v (top + 3) (omega arith) (λ k o b. h.below k b) 0 top (top + 3) (omega arith) (omega arith) (omega arith) (λ k o p b. h.below k b) q)
 
 -- `equal_made`
-module _ {w : List ℕ} {lay : Layout} {g : Walk} {a kind x y : ℕ} where
+module _ {g : Walk} {a kind x y : ℕ} where
   -- no step is left
-  pub made_spent : {r : Walk} → g.left ≡ 0 → r ≡ spent_walk g → EquatesMade w w lay g a kind x y r
-  made_spent z q = record { means = λ t u h. solves_spent z q }
+  pub made_spent : {why : Refusal} → HasStep g.unifier (Err why) → EquatesMade g a kind x y g (Err why)
+  made_spent z = record { means = λ t u h. solves_spent z }
 
-  module _ (h : MadeAsked w lay g a kind x y) (z : g.left ≡ 0 → ⊥) where
+  module _ (h : MadeAsked g a kind x y) (z : g.unifier.left ≡ 0 → ⊥) where
     -- the node has room
-    pub made_room : g.top + 4 ≤ length w
+    pub made_room : g.unifier.top + 4 ≤ length g.unifier.words.now
     made_room = let p = h.solving.room.heap in let q = h.solving.room.hand in omega arith
 
-    pub made_small : g.top + 3 < 4294967296
+    pub made_small : g.unifier.top + 3 < 4294967296
     made_small = let p = made_room in let q = h.solving.room.small in omega arith
 
-    module _ (words : MutBor (List ℕ)) (f : Wrote w words.now g.top kind x y) where
-      put : Frame w words.now 0 g.top (g.top + 3) lay.stack g.left
-      put = let p = h.solving.room.heap in wrote_frame (omega arith) f
+    -- the unifier after the node was put
+    abbrev made : Unifier
+    made = with_made g.unifier kind x y
 
-      put_good : (σ : Log) → Good w lay.lo g.top σ → Good words.now lay.lo (g.top + 3) σ
-      put_good σ good = good_same words.now (g.top + 3) (omega arith) put.below good
+    put : Wrote g.unifier.words.now made.words.now g.unifier.top kind x y
+    put = wrote (omega (arith, made_room)) refl
 
-      put_rep : {n : ℕ} {t : Ty} → Rep w lay.lo g.top n t → Rep words.now lay.lo (g.top + 3) n t
-      put_rep q = rep_same words.now (g.top + 3) (omega arith) (λ k o b. put.below k (omega arith) b) q
+    framed : Frame g.unifier.words.now made.words.now 0 g.unifier.top (g.unifier.top + 3) g.unifier.stack g.unifier.left
+    framed = let p = h.solving.room.heap in wrote_frame (omega arith) put
 
-      -- what `unify` asks
-      pub made_calls : KnownBoth (charged (starts words lay g (g.top + 3))) a g.top
-      made_calls =
-          let p = h.solving.room.heap in
-          let q = h.solving.room.hand in
-          let n = h.solving.room.small in
-          let l = f.len in
-          record {
-            room = record { heap = omega arith; hand = omega arith; small = omega arith };
-            σ = h.solving.σ;
-            t = h.t;
-            v = h.u;
-            good = put_good h.solving.σ h.solving.good;
-            left = put_rep h.stand.left;
-            right = made_node h.solving.good.nodes f h.stand.makes;
-          }
+    put_good : (σ : Log) → GoodIn g.unifier σ → GoodIn made σ
+    put_good σ good = good_same made.words.now (g.unifier.top + 3) (omega arith) framed.below good
 
-      pub equates_made : {u : Unifier} {q : Walk} (r : Result (Unit {0}) Refusal) → UnifiesNodes (starts words lay g (g.top + 3)) a g.top u r → q ≡ walk_after g u r
-          → EquatesMade w u.words.now lay g a kind x y q
-      equates_made r i e =
-          rw e (record {
-            means = λ t v k.
-                solves_one r h.solving (frame_from lay.lo put) put_good i (λ n. let p = i.charged z in omega arith) (put_rep k.left)
-                (made_node h.solving.good.nodes f k.makes);
-          })
+    put_rep : {n : ℕ} {t : Ty} → RepIn g.unifier n t → RepIn made n t
+    put_rep q = rep_same made.words.now (g.unifier.top + 3) (omega arith) (λ k o b. framed.below k (omega arith) b) q
 
-    -- the same, by the words that the unifier was given
-    pub equates_put : {words : MutBor (List ℕ)} {v : List ℕ} {u : Unifier} {q : Walk} (r : Result (Unit {0}) Refusal) → UnifiesNodes (starts words lay g (g.top + 3)) a g.top u r
-        → words.now ≡ v → Wrote w v g.top kind x y → q ≡ walk_after g u r → EquatesMade w u.words.now lay g a kind x y q
-    equates_put {words} r i e f = equates_made words (rw e f) r i
+    -- what `unify` asks
+    pub made_calls : KnownBoth (charged made) a g.unifier.top
+    made_calls =
+        let p = h.solving.room.heap in
+        let q = h.solving.room.hand in
+        let n = h.solving.room.small in
+        let l = put.len in
+        record {
+          room = record { heap = omega arith; hand = omega arith; small = omega arith };
+          σ = h.solving.σ;
+          t = h.t;
+          v = h.v;
+          good = put_good h.solving.σ h.solving.good;
+          left = put_rep h.stand.left;
+          right = made_node h.solving.good.nodes put h.stand.makes;
+        }
 
-pub made_as : {w u v : List ℕ} {lay : Layout} {g : Walk} {a kind x y : ℕ} {q : Walk} → v ≡ u → EquatesMade w u lay g a kind x y q → EquatesMade w v lay g a kind x y q
-made_as e h = rw e h
+    pub equates_made : {u : Unifier} (r : Result (Unit {0}) Refusal) → UnifiesNodes made a g.unifier.top u r → EquatesMade g a kind x y (walk_after g u) r
+    equates_made r i = record {
+      means = λ t v k.
+          solves_one r h.solving refl refl refl refl (frame_from g.unifier.lo framed) i (let p = i.charged z in omega arith) put_good (put_rep k.left)
+          (made_node h.solving.good.nodes put k.makes);
+    }

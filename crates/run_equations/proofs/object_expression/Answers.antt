@@ -1,82 +1,49 @@
-use native.Mathlib.Omega.{arith}
-use mathlib.Core.List.{[]}
-use Rattle.run_walk.proofs.Composing.{own_fits}
-use Rattle.run_equations.proofs.Standing.{prim_stands, object_stands, equal_asks_on, equal_solves_on, instruction_inside, instruction_low, lvalue_asks, lvalue_stands}
-use Rattle.run_equations.proofs.InstructionEquations.{items_start, item_low, item_inside, items_all, key_asks, key_stands, key_turn, key_skip}
+use Rattle.std.proofs.Common.{arith, []}
+use Rattle.run_walk.proofs.Composing.{solving_on, solves_then}
+use Rattle.run_equations.proofs.Standing.{prim_stands, slot_stands, equal_asks, equal_solves, stops}
+use Rattle.run_equations.proofs.InstructionEquations.{key_inside, key_some, key_none, through_none, through_more, through_skip, through_all, through_stops}
 use Rattle.run_equations.proofs.object_expression.Goals as goal
-use Rattle.run_equations.proofs.object_expression.Goals.{else-img-i-eq-COMPUTED_KEY, then-img-i-eq-COMPUTED_KEY}
-
-pub overflow_add-k-end : goal.overflow_add-k-end
-overflow_add-k-end c = omega (arith, instruction_low c.requires)
-
-pub offset_bounds-img-at : goal.offset_bounds-img-at
-offset_bounds-img-at c = omega (arith, instruction_low c.requires)
-
-pub bounds-img-at : goal.bounds-img-at
-bounds-img-at c = omega (arith, instruction_inside c.requires)
+use Rattle.run_equations.proofs.object_expression.Goals.{then-eq+in_ok-equal, else-eq}
 
 pub loop-k-init : goal.loop-k-init
-loop-k-init c = (omega arith, record { solves = λ bytes. items_start _ _ _ c.requires.solving.running })
-
-pub overflow_add-i : goal.overflow_add-i
-overflow_add-i c = omega (arith, instruction_low c.requires)
-
-pub overflow_cast-i : goal.overflow_cast-i
-overflow_cast-i c = omega (arith, item_low c.requires c.loop-k-test.true)
-
-pub overflow_mul-i : goal.overflow_mul-i
-overflow_mul-i c = omega (arith, item_low c.requires c.loop-k-test.true)
-
-pub overflow_add-i-in-loop-k : goal.overflow_add-i-in-loop-k
-overflow_add-i-in-loop-k c = omega (arith, item_low c.requires c.loop-k-test.true)
-
-pub offset_bounds-img-i : goal.offset_bounds-img-i
-offset_bounds-img-i c = omega (arith, item_low c.requires c.loop-k-test.true)
-
-pub bounds-img-i : goal.bounds-img-i
-bounds-img-i c = omega (arith, item_inside c.requires c.loop-k-test.true)
-
-pub overflow_add-i-then-img-i-eq-COMPUTED_KEY : goal.overflow_add-i-then-img-i-eq-COMPUTED_KEY
-overflow_add-i-then-img-i-eq-COMPUTED_KEY c = omega (arith, item_low c.requires c.loop-k-test.true)
-
-pub slot_at-requires : goal.slot_at-requires
-slot_at-requires c = key_asks c.requires c.loop-k-test.true c.if-img-i-eq-COMPUTED_KEY.true
-
-pub equal-g-requires : goal.equal-g-requires
-equal-g-requires c =
-    let p = c.requires in
-    equal_asks_on p.solving (c.loop-k.invariant.1.solves []) (key_stands p c.loop-k-test.true c.if-img-i-eq-COMPUTED_KEY.true c.slot_at.ensures) prim_stands
-
-pub overflow_step-k : goal.overflow_step-k
-overflow_step-k c = omega (arith, item_low c.requires c.loop-k-test.true)
-
-pub loop-k-preserved : goal.loop-k-preserved
-loop-k-preserved c =
-    let p = c.requires in
-    let f = c.loop-k.invariant.1 in
-    let t = c.loop-k-test.true in (
-      omega arith,
-      elim c.if-img-i-eq-COMPUTED_KEY.branch [ then-img-i-eq-COMPUTED_KEY y ↦ rw (y.w-is, y.g-is) (key_turn p t f y.if-img-i-eq-COMPUTED_KEY.true y.slot_at.ensures y.equal-g.ensures) | else-img-i-eq-COMPUTED_KEY y ↦ rw (y.w-is, y.g-is) (key_skip p t f y.if-img-i-eq-COMPUTED_KEY.false) ],
-    )
-
-pub overflow_add-at : goal.overflow_add-at
-overflow_add-at c = omega (arith, instruction_low c.requires)
-
-pub slot_at-requires-2 : goal.slot_at-requires-2
-slot_at-requires-2 c = lvalue_asks c.requires
-
-pub object_of-requires : goal.object_of-requires
-object_of-requires c = omega (arith, own_fits c.requires.solving)
+loop-k-init c = through_none
 
 pub equal-requires : goal.equal-requires
 equal-requires c =
-    let p = c.requires in
-    equal_asks_on p.solving (c.loop-k.invariant.1.solves []) (lvalue_stands p c.slot_at-2.ensures) (object_stands 3 (omega arith) c.object_of.ensures)
+    let l = rw c.items-k-end.ensures at c.loop-k-test.true in
+    let i = key_inside c.args.on.now l c.item-item.ensures c.eq.ensures c.if-eq.true in
+    equal_asks (solving_on (c.loop-k.invariant.solves []) c.requires.solving) (slot_stands _ i c.slot_of.ensures) prim_stands
+
+pub returns-in_err-equal : goal.returns-in_err-equal
+returns-in_err-equal c =
+    let h = c.loop-k.invariant in
+    let on = c.args.on.now in
+    let l = rw c.items-k-end.ensures at c.loop-k-test.true in
+    let i = key_inside on l c.item-item.ensures c.eq.ensures c.if-eq.true in
+    let s = equal_solves (solving_on (h.solves []) c.requires.solving) (slot_stands _ i c.slot_of.ensures) prim_stands c.in_err-equal.ensures in
+    record {
+      solves = λ bytes.
+          stops _ _ c.from_residual.ensures.1 (through_stops h l (λ b. key_some on l c.item-item.ensures c.eq.ensures b c.if-eq.true) s bytes);
+    }
+
+pub loop-k-preserved : goal.loop-k-preserved
+loop-k-preserved c =
+    let h = c.loop-k.invariant in
+    let on = c.args.on.now in
+    let l = rw c.items-k-end.ensures at c.loop-k-test.true in
+    elim c.if-eq.branch [
+      | then-eq+in_ok-equal w ↦
+          let i = key_inside on l c.item-item.ensures c.eq.ensures w.if-eq.true in
+          rw w.walk-is
+          (through_more h l (λ b. key_some on l c.item-item.ensures c.eq.ensures b w.if-eq.true)
+          (equal_solves (solving_on (h.solves []) c.requires.solving) (slot_stands _ i w.slot_of.ensures) prim_stands w.in_ok-equal.ensures))
+      | else-eq w ↦ rw w.walk-is (through_skip h l (λ b. key_none on l c.item-item.ensures c.eq.ensures b w.if-eq.false))
+    ]
+
+pub object-requires-clause-solving : goal.object-requires-clause-solving
+object-requires-clause-solving c = solving_on (c.loop-k.invariant.solves []) c.requires.solving
 
 pub returns : goal.returns
 returns c =
-    let p = c.requires in
-    record { solves = λ bytes. equal_solves_on p.solving (items_all _ _ _ _ _ (c.loop-k.invariant.1.solves bytes) (omega arith)) (lvalue_stands p c.slot_at-2.ensures) (object_stands 3 (omega arith) c.object_of.ensures) c.equal.ensures }
-
-pub shape_of-w : goal.shape_of-w
-shape_of-w c = ((returns c).solves []).keeps.len
+    let h = c.loop-k.invariant in
+    record { solves = λ bytes. solves_then (through_all h (omega (arith, h.some, c.loop-k-test.false, c.items-k-end.ensures)) bytes) _ c.object.ensures }

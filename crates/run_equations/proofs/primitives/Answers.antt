@@ -1,44 +1,39 @@
-use native.Mathlib.Omega.{arith}
-use Rattle.run_equations.proofs.Standing.{prim_stands, equal_asks, equal_solves, equal_asks_on, equal_solves_on, instruction_low, lvalue_asks, lvalue_stands, first_asks, first_stands, second_asks, second_stands}
+use Rattle.std.proofs.Common.{arith}
+use Rattle.run_equations.proofs.Standing.{prim_stands, lvalue_stands, operand_stands, equal_asks, equal_solves, equal_asks_on, equal_solves_on, stops}
 use Rattle.run_equations.proofs.primitives.Goals as goal
-
-pub overflow_add-at : goal.overflow_add-at
-overflow_add-at c = omega (arith, instruction_low c.requires)
-
-pub slot_at-requires : goal.slot_at-requires
-slot_at-requires c = first_asks c.requires (omega arith)
-
-pub equal-h-requires : goal.equal-h-requires
-equal-h-requires c = let p = c.requires in λ z. equal_asks p.solving (first_stands p (omega arith) c.slot_at.ensures) prim_stands
-
-pub overflow_add-at-2 : goal.overflow_add-at-2
-overflow_add-at-2 c = omega (arith, instruction_low c.requires)
-
-pub slot_at-requires-2 : goal.slot_at-requires-2
-slot_at-requires-2 c = second_asks c.requires (omega arith)
-
-pub equal-i-requires : goal.equal-i-requires
-equal-i-requires c =
-    let p = c.requires in
-    let f = equal_solves p.solving (first_stands p (omega arith) c.slot_at.ensures) prim_stands c.equal-h.ensures in
-    equal_asks_on p.solving f (second_stands p (omega arith) c.slot_at-2.ensures) prim_stands
-
-pub overflow_add-at-3 : goal.overflow_add-at-3
-overflow_add-at-3 c = omega (arith, instruction_low c.requires)
-
-pub slot_at-requires-3 : goal.slot_at-requires-3
-slot_at-requires-3 c = lvalue_asks c.requires
 
 pub equal-requires : goal.equal-requires
 equal-requires c =
+    let p = c.requires in equal_asks p.solving (operand_stands c.args.on.now 0 (omega (arith, p.items)) c.operand.ensures) prim_stands
+
+pub returns-in_err-equal : goal.returns-in_err-equal
+returns-in_err-equal c =
     let p = c.requires in
-    let f = equal_solves p.solving (first_stands p (omega arith) c.slot_at.ensures) prim_stands c.equal-h.ensures in
-    let h = equal_solves_on p.solving f (second_stands p (omega arith) c.slot_at-2.ensures) prim_stands c.equal-i.ensures in
-    equal_asks_on p.solving h (lvalue_stands p c.slot_at-3.ensures) prim_stands
+    stops _ _ c.from_residual.ensures.1 (equal_solves p.solving (operand_stands c.args.on.now 0 (omega (arith, p.items)) c.operand.ensures) prim_stands c.in_err-equal.ensures)
+
+pub equal-requires-2 : goal.equal-requires-2
+equal-requires-2 c =
+    let p = c.requires in
+    let f = equal_solves p.solving (operand_stands c.args.on.now 0 (omega (arith, p.items)) c.operand.ensures) prim_stands c.in_ok-equal.ensures in
+    equal_asks_on p.solving f (operand_stands c.args.on.now 1 (omega (arith, p.items)) c.operand-2.ensures) prim_stands
+
+pub returns-in_err-equal-2 : goal.returns-in_err-equal-2
+returns-in_err-equal-2 c =
+    let p = c.requires in
+    let f = equal_solves p.solving (operand_stands c.args.on.now 0 (omega (arith, p.items)) c.operand.ensures) prim_stands c.in_ok-equal.ensures in
+    stops _ _ c.from_residual-in_err-equal-2.ensures.1
+    (equal_solves_on p.solving f (operand_stands c.args.on.now 1 (omega (arith, p.items)) c.operand-2.ensures) prim_stands _ c.in_err-equal-2.ensures)
+
+pub equal-requires-3 : goal.equal-requires-3
+equal-requires-3 c =
+    let p = c.requires in
+    let f = equal_solves p.solving (operand_stands c.args.on.now 0 (omega (arith, p.items)) c.operand.ensures) prim_stands c.in_ok-equal.ensures in
+    let h = equal_solves_on p.solving f (operand_stands c.args.on.now 1 (omega (arith, p.items)) c.operand-2.ensures) prim_stands _ c.in_ok-equal-2.ensures in
+    equal_asks_on p.solving h (lvalue_stands c.args.on.now c.slot.ensures) prim_stands
 
 pub returns : goal.returns
 returns c =
     let p = c.requires in
-    let f = equal_solves p.solving (first_stands p (omega arith) c.slot_at.ensures) prim_stands c.equal-h.ensures in
-    let h = equal_solves_on p.solving f (second_stands p (omega arith) c.slot_at-2.ensures) prim_stands c.equal-i.ensures in
-    equal_solves_on p.solving h (lvalue_stands p c.slot_at-3.ensures) prim_stands c.equal.ensures
+    let f = equal_solves p.solving (operand_stands c.args.on.now 0 (omega (arith, p.items)) c.operand.ensures) prim_stands c.in_ok-equal.ensures in
+    let h = equal_solves_on p.solving f (operand_stands c.args.on.now 1 (omega (arith, p.items)) c.operand-2.ensures) prim_stands _ c.in_ok-equal-2.ensures in
+    equal_solves_on p.solving h (lvalue_stands c.args.on.now c.slot.ensures) prim_stands _ c.equal-3.ensures

@@ -1,66 +1,43 @@
-use native.Mathlib.Omega.{arith}
-use Rattle.run_walk.proofs.Composing.{own_fits}
-use Rattle.run_equations.proofs.Standing.{object_stands, equal_asks_on, instruction_inside, instruction_low}
-use Rattle.run_equations.proofs.InstructionEquations.{items_start, item_low, items_all, attribute_asks, attribute_place, attribute_stands, attribute_turn, attribute_skip}
+use Rattle.std.proofs.Common.{arith, []}
+use Rattle.run_walk.proofs.Composing.{solving_on, own_fits}
+use Rattle.unifier_nodes.proofs.Promised.{handed_on}
+use Rattle.run_equations.proofs.Standing.{object_stands, operand_stands, equal_asks, equal_solves}
+use Rattle.run_equations.proofs.InstructionEquations.{ref_some, ref_none, through_none, through_more, through_skip, through_all, through_stops}
 use Rattle.run_equations.proofs.ref_attributes.Goals as goal
-use Rattle.run_equations.proofs.ref_attributes.Goals.{else-is_ref_attribute, then-is_ref_attribute}
-
-pub overflow_add-k-end : goal.overflow_add-k-end
-overflow_add-k-end c = omega (arith, instruction_low c.requires.0)
-
-pub offset_bounds-img-at : goal.offset_bounds-img-at
-offset_bounds-img-at c = omega (arith, instruction_low c.requires.0)
-
-pub bounds-img-at : goal.bounds-img-at
-bounds-img-at c = omega (arith, instruction_inside c.requires.0)
+use Rattle.run_equations.proofs.ref_attributes.Goals.{then-is_ref_attribute+in_ok-equal, else-is_ref_attribute}
 
 pub loop-k-init : goal.loop-k-init
-loop-k-init c = (omega arith, items_start _ _ _ c.requires.0.solving.running)
-
-pub overflow_add-i : goal.overflow_add-i
-overflow_add-i c = omega (arith, instruction_low c.requires.0)
-
-pub overflow_cast-i : goal.overflow_cast-i
-overflow_cast-i c = omega (arith, item_low c.requires.0 c.loop-k-test.true)
-
-pub overflow_mul-i : goal.overflow_mul-i
-overflow_mul-i c = omega (arith, item_low c.requires.0 c.loop-k-test.true)
-
-pub overflow_add-i-in-loop-k : goal.overflow_add-i-in-loop-k
-overflow_add-i-in-loop-k c = omega (arith, item_low c.requires.0 c.loop-k-test.true)
-
-pub is_ref_attribute-requires : goal.is_ref_attribute-requires
-is_ref_attribute-requires c = let p = c.requires in attribute_asks p.0 c.loop-k-test.true p.1
-
-pub overflow_add-i-then-is_ref_attribute : goal.overflow_add-i-then-is_ref_attribute
-overflow_add-i-then-is_ref_attribute c = omega (arith, item_low c.requires.0 c.loop-k-test.true)
-
-pub slot_at-requires : goal.slot_at-requires
-slot_at-requires c = attribute_place c.requires.0 c.loop-k-test.true
+loop-k-init c = through_none
 
 pub object_of-requires : goal.object_of-requires
-object_of-requires c = omega (arith, own_fits c.requires.0.solving)
+object_of-requires c = omega (arith, own_fits c.requires.solving)
 
-pub equal-g-requires : goal.equal-g-requires
-equal-g-requires c =
-    let p = c.requires in
-    equal_asks_on p.0.solving c.loop-k.invariant.1 (attribute_stands p.0 c.loop-k-test.true c.slot_at.ensures) (object_stands 1 (omega arith) c.object_of.ensures)
+pub equal-requires : goal.equal-requires
+equal-requires c =
+    let l = rw c.items-k-end.ensures at c.loop-k-test.true in
+    equal_asks (solving_on (c.loop-k.invariant.solves []) c.requires.solving) (operand_stands c.args.on.now _ l c.operand.ensures) (object_stands 1 (omega arith) c.object_of.ensures)
 
-pub overflow_step-k : goal.overflow_step-k
-overflow_step-k c = omega (arith, item_low c.requires.0 c.loop-k-test.true)
+pub returns-in_err-equal : goal.returns-in_err-equal
+returns-in_err-equal c =
+    let h = c.loop-k.invariant in
+    let on = c.args.on.now in
+    let l = rw c.items-k-end.ensures at c.loop-k-test.true in
+    let s = equal_solves (solving_on (h.solves []) c.requires.solving) (operand_stands on _ l c.operand.ensures) (object_stands 1 (omega arith) c.object_of.ensures) c.in_err-equal.ensures in
+    rw (handed_on _ c.from_residual.ensures.1) (through_stops h l (λ b. ref_some on _ c.is_ref_attribute.ensures l c.if-is_ref_attribute.true) s [])
 
 pub loop-k-preserved : goal.loop-k-preserved
 loop-k-preserved c =
-    let p = c.requires in
-    let f = c.loop-k.invariant.1 in
-    let t = c.loop-k-test.true in
-    let e = c.is_ref_attribute.ensures in (
-      omega arith,
-      elim c.if-is_ref_attribute.branch [ then-is_ref_attribute y ↦ rw (y.w-is, y.g-is) (attribute_turn p.0 t _ f e y.if-is_ref_attribute.true y.slot_at.ensures y.object_of.ensures y.equal-g.ensures) | else-is_ref_attribute y ↦ rw (y.w-is, y.g-is) (attribute_skip p.0 t _ f e y.if-is_ref_attribute.false) ],
-    )
-
-pub shape_of-w : goal.shape_of-w
-shape_of-w c = c.loop-k.invariant.1.keeps.len
+    let h = c.loop-k.invariant in
+    let on = c.args.on.now in
+    let l = rw c.items-k-end.ensures at c.loop-k-test.true in
+    elim c.if-is_ref_attribute.branch [
+      | then-is_ref_attribute+in_ok-equal w ↦
+          rw w.walk-is
+          (through_more h l (λ b. ref_some on _ c.is_ref_attribute.ensures l w.if-is_ref_attribute.true)
+          (equal_solves (solving_on (h.solves []) c.requires.solving) (operand_stands on _ l w.operand.ensures) (object_stands 1 (omega arith) w.object_of.ensures) w.in_ok-equal.ensures))
+      | else-is_ref_attribute w ↦ rw w.walk-is (through_skip h l (λ b. ref_none on _ c.is_ref_attribute.ensures w.if-is_ref_attribute.false))
+    ]
 
 pub returns : goal.returns
-returns c = items_all _ _ _ _ _ c.loop-k.invariant.1 (omega arith)
+returns c =
+    let h = c.loop-k.invariant in through_all h (omega (arith, h.some, c.loop-k-test.false, c.items-k-end.ensures)) []

@@ -1,41 +1,29 @@
-use native.Mathlib.Omega.{arith}
-use Rattle.run_equations.proofs.FunctionEquations.{returns_fit, returns_long, returns_place, nothing_returned, one_asks, one_returned, more_asks, more_returned}
+use Rattle.std.proofs.Common.{arith}
+use Rattle.run_equations.proofs.FunctionEquations.{returns_fit, returns_long, nothing_returned, one_asks, one_returned, more_asks, more_returned}
 use Rattle.run_equations.proofs.returns.Goals as goal
 
 pub overflow_add-from : goal.overflow_add-from
-overflow_add-from c = let p = c.requires in omega (arith, returns_fit p.0 p.1)
+overflow_add-from c = let p = c.requires in omega (arith, returns_fit p.solving p.fits)
 
-pub bounds-w-from : goal.bounds-w-from
-bounds-w-from c = let p = c.requires in omega (arith, returns_long p.0 p.1)
+pub bounds-walk-from : goal.bounds-walk-from
+bounds-walk-from c = let p = c.requires in omega (arith, returns_long p.solving p.fits)
 
-pub returns-then-n-eq0 : goal.returns-then-n-eq0
-returns-then-n-eq0 c = let p = c.requires in nothing_returned p.0 p.1 c.if-n-eq0.true
-
-pub slot_at-place-requires : goal.slot_at-place-requires
-slot_at-place-requires c = let p = c.requires in returns_place p.0 p.1
-
-pub bounds-w-from-then-n-eq1 : goal.bounds-w-from-then-n-eq1
-bounds-w-from-then-n-eq1 c = let p = c.requires in omega (arith, returns_long p.0 p.1)
+pub bounds-walk-from-in-1 : goal.bounds-walk-from-in-1
+bounds-walk-from-in-1 c = let p = c.requires in returns_long p.solving p.fits
 
 pub equal-requires : goal.equal-requires
-equal-requires c =
-    let p = c.requires in
-    λ z. one_asks p.0 p.1 c.slot_at-place.ensures c.if-n-eq1.true
-
-pub returns-then-n-eq1 : goal.returns-then-n-eq1
-returns-then-n-eq1 c =
-    let p = c.requires in
-    one_returned p.0 p.1 c.slot_at-place.ensures c.if-n-eq1.true c.equal.ensures
-
-pub overflow_add-from-2 : goal.overflow_add-from-2
-overflow_add-from-2 c = let p = c.requires in omega (arith, returns_fit p.0 p.1)
+equal-requires c = let p = c.requires in one_asks p.solving p.fits c.slot_at-place.ensures c.in-1.is
 
 pub equal_made-requires : goal.equal_made-requires
 equal_made-requires c =
-    let p = c.requires in
-    more_asks p.0 p.1 c.slot_at-place.ensures c.if-n-eq0.false c.if-n-eq1.false
+    let p = c.requires in more_asks p.solving p.fits c.slot_at-place.ensures (λ z. omega arith) (λ z. omega arith)
 
-pub returns : goal.returns
-returns c =
-    let p = c.requires in
-    more_returned p.0 p.1 c.slot_at-place.ensures c.if-n-eq0.false c.if-n-eq1.false c.equal_made.ensures
+pub returns-in-0 : goal.returns-in-0
+returns-in-0 c = let p = c.requires in nothing_returned p.solving p.fits c.in-0.is
+
+pub returns-in-1 : goal.returns-in-1
+returns-in-1 c = let p = c.requires in one_returned p.solving p.fits c.slot_at-place.ensures c.in-1.is c.equal.ensures
+
+pub returns-in_default : goal.returns-in_default
+returns-in_default c =
+    let p = c.requires in more_returned p.solving p.fits c.slot_at-place.ensures (λ z. omega arith) (λ z. omega arith) c.equal_made.ensures

@@ -1,266 +1,166 @@
-use mathlib.Core.Path.{refl}
-use mathlib.Core.Bool.{true, false}
-use mathlib.Core.List.{[], ◌∷◌}
-use native.Mathlib.Omega.{arith}
+use Rattle.std.proofs.Common.{refl, arith, true, false}
 use Rattle.image.specs.Ty.{function_kind}
 use Rattle.image.specs.Kind.{forms}
 use Rattle.run_definition.specs.Fitting.{least_items}
-use Rattle.run_generate.proofs.Dispatch.{instruction_inside, asks, ready_items, asks_items, call_asked, expression_fits, names_there, same_kind, primitive_done, primitives_done, prefix_done, postfix_done, store_local_done, store_context_done, binary_done, alias_done, jsx_done, object_expression_done, object_method_done, array_done, fragment_done, load_global_done, function_expression_done, new_done, method_done, tagged_done, silent_done}
+use Rattle.run_reading.specs.declared.kind.Kind.TheVariants.{LoadLocal, StoreLocal, StoreContext, Destructure, BinaryExpression, NewExpression, CallExpression, MethodCall, PropertyStore, PropertyLoad, ComputedLoad, FunctionExpression, TaggedTemplateExpression}
+use Rattle.run_generate.proofs.KindTable.{items_there}
+use Rattle.run_walk.proofs.Composing.{names_in}
+use Rattle.run_generate.proofs.Dispatch.{alias_items, update_items, operand_inside, same_kind, primitive_done, update_done, binary_done, store_local_done, store_context_done, alias_done, jsx_done, object_expression_done, object_method_done, array_done, fragment_done, load_global_done, new_done, method_done, tagged_done, silent_done}
 use Rattle.run_generate.proofs.instruction_types.Goals as goal
 
-pub offset_bounds-img-at : goal.offset_bounds-img-at
-offset_bounds-img-at c = omega (arith, instruction_inside c.requires.fits)
-
-pub bounds-img-at : goal.bounds-img-at
-bounds-img-at c = omega (arith, instruction_inside c.requires.fits)
-
-pub load_local-requires : goal.load_local-requires
+pub load_local-requires-clause-items : goal.load_local-requires-clause-items
 unfolding forms least_items
-load_local-requires c = ready_items c.requires (0 ∷ []) 1 (omega arith, tt) c.in-0.is
+load_local-requires-clause-items c = items_there c.args.on.now LoadLocal c.in-LoadLocal.ensures (omega arith)
 
-pub store_local-requires : goal.store_local-requires
+pub store_local-requires-clause-items : goal.store_local-requires-clause-items
 unfolding forms least_items
-store_local-requires c = asks_items c.requires (4 ∷ []) 2 (omega arith, tt) c.in-4.is
+store_local-requires-clause-items c = items_there c.args.on.now StoreLocal c.in-StoreLocal.ensures (omega arith)
 
-pub store_context-requires : goal.store_context-requires
+pub store_context-requires-clause-items : goal.store_context-requires-clause-items
 unfolding forms least_items
-store_context-requires c = asks_items c.requires (5 ∷ []) 2 (omega arith, tt) c.in-5.is
+store_context-requires-clause-items c = items_there c.args.on.now StoreContext c.in-StoreContext.ensures (omega arith)
 
-pub destructure-requires : goal.destructure-requires
+pub destructure-requires-clause-items : goal.destructure-requires-clause-items
 unfolding forms least_items
-destructure-requires c = (ready_items c.requires (6 ∷ []) 1 (omega arith, tt) c.in-6.is, c.in-6.is)
+destructure-requires-clause-items c = items_there c.args.on.now Destructure c.in-Destructure.ensures (omega arith)
 
-pub primitive-requires : goal.primitive-requires
-primitive-requires c = asks c.requires
-
-pub primitive-requires-in-8 : goal.primitive-requires-in-8
-primitive-requires-in-8 c = asks c.requires
-
-pub binary-requires : goal.binary-requires
+pub binary-requires-clause-items : goal.binary-requires-clause-items
 unfolding forms least_items
-binary-requires c = asks_items c.requires (9 ∷ []) 2 (omega arith, tt) c.in-9.is
+binary-requires-clause-items c = items_there c.args.on.now BinaryExpression c.in-BinaryExpression.ensures (omega arith)
 
-pub overflow_add-at : goal.overflow_add-at
-overflow_add-at c = omega (arith, instruction_inside c.requires.fits)
-
-pub call-requires : goal.call-requires
-unfolding forms least_items function_kind
-call-requires c = call_asked c.requires true 0 _ _ (omega arith) (omega arith) refl c.in-10.is
-
-pub call_expression-requires : goal.call_expression-requires
+pub call_expression-requires-clause-items : goal.call_expression-requires-clause-items
 unfolding forms least_items
-call_expression-requires c = ready_items c.requires (11 ∷ []) 1 (omega arith, tt) c.in-11.is
+call_expression-requires-clause-items c = items_there c.args.on.now CallExpression c.in-CallExpression.ensures (omega arith)
 
-pub overflow_add-at-in-12 : goal.overflow_add-at-in-12
-overflow_add-at-in-12 c = omega (arith, instruction_inside c.requires.fits)
-
-pub call-requires-in-12 : goal.call-requires-in-12
-unfolding forms least_items function_kind
-call-requires-in-12 c = call_asked c.requires false 1 _ _ (omega arith) (omega arith) refl c.in-12.is
-
-pub alias-requires : goal.alias-requires
+pub property_store-requires-clause-items : goal.property_store-requires-clause-items
 unfolding forms least_items
-alias-requires c = asks_items c.requires (14 ∷ 29 ∷ []) 1 (omega arith, (omega arith, tt)) c.in-14.is
+property_store-requires-clause-items c = items_there c.args.on.now PropertyStore c.in-PropertyStore.ensures (omega arith)
 
-pub jsx_expression-requires : goal.jsx_expression-requires
-jsx_expression-requires c =
-    (asks c.requires, names_there c.requires)
-
-pub object_expression-requires : goal.object_expression-requires
-object_expression-requires c = asks c.requires
-
-pub object_method-requires : goal.object_method-requires
-object_method-requires c = asks c.requires
-
-pub object-requires : goal.object-requires
-object-requires c = (asks c.requires, omega arith)
-
-pub object-requires-in-19 : goal.object-requires-in-19
-object-requires-in-19 c = (asks c.requires, omega arith)
-
-pub property_store-requires : goal.property_store-requires
+pub property_load-requires-clause-items : goal.property_load-requires-clause-items
 unfolding forms least_items
-property_store-requires c = (ready_items c.requires (22 ∷ []) 1 (omega arith, tt) c.in-22.is, c.in-22.is)
+property_load-requires-clause-items c = items_there c.args.on.now PropertyLoad c.in-PropertyLoad.ensures (omega arith)
 
-pub property_load-requires : goal.property_load-requires
+pub computed_load-requires-clause-items : goal.computed_load-requires-clause-items
 unfolding forms least_items
-property_load-requires c = (ready_items c.requires (23 ∷ []) 1 (omega arith, tt) c.in-23.is, c.in-23.is)
+computed_load-requires-clause-items c = items_there c.args.on.now ComputedLoad c.in-ComputedLoad.ensures (omega arith)
 
-pub computed_load-requires : goal.computed_load-requires
+pub operand-requires : goal.operand-requires
 unfolding forms least_items
-computed_load-requires c = ready_items c.requires (26 ∷ []) 1 (omega arith, tt) c.in-26.is
+operand-requires c = items_there c.args.on.now NewExpression c.in-NewExpression.ensures (omega arith)
 
-pub load_global-requires : goal.load_global-requires
-load_global-requires c = (asks c.requires, c.in-28.is)
-
-pub function_expression-requires : goal.function_expression-requires
-function_expression-requires c =
-    (asks c.requires, expression_fits c.requires c.in-30.is)
-
-pub overflow_add-at-in-31 : goal.overflow_add-at-in-31
-overflow_add-at-in-31 c = omega (arith, instruction_inside c.requires.fits)
-
-pub call-requires-in-31 : goal.call-requires-in-31
-unfolding forms least_items function_kind
-call-requires-in-31 c = call_asked c.requires false 0 _ _ (omega arith) (omega arith) refl c.in-31.is
-
-pub primitives-requires : goal.primitives-requires
+pub call-requires-clause-callee : goal.call-requires-clause-callee
 unfolding forms least_items
-primitives-requires c = asks_items c.requires (37 ∷ []) 2 (omega arith, tt) c.in-37.is
+call-requires-clause-callee c = operand_inside c.args.on.now c.requires.ready {k = 0} (items_there c.args.on.now NewExpression c.in-NewExpression.ensures (omega arith)) c.operand.ensures
 
-pub primitives-requires-in-38 : goal.primitives-requires-in-38
+pub call-requires-clause-kind : goal.call-requires-clause-kind
+unfolding function_kind
+call-requires-clause-kind c = (true, refl)
+
+pub operand-requires-in-MethodCall : goal.operand-requires-in-MethodCall
 unfolding forms least_items
-primitives-requires-in-38 c = asks_items c.requires (38 ∷ []) 2 (omega arith, tt) c.in-38.is
+operand-requires-in-MethodCall c = items_there c.args.on.now MethodCall c.in-MethodCall.ensures (omega arith)
 
-pub returns-in-0 : goal.returns-in-0
+pub call-requires-in-MethodCall-clause-callee : goal.call-requires-in-MethodCall-clause-callee
+unfolding forms least_items
+call-requires-in-MethodCall-clause-callee c = operand_inside c.args.on.now c.requires.ready {k = 1} (items_there c.args.on.now MethodCall c.in-MethodCall.ensures (omega arith)) c.operand-in-MethodCall.ensures
+
+pub call-requires-in-MethodCall-clause-kind : goal.call-requires-in-MethodCall-clause-kind
+unfolding function_kind
+call-requires-in-MethodCall-clause-kind c = (false, refl)
+
+pub operand-requires-in-TaggedTemplateExpression : goal.operand-requires-in-TaggedTemplateExpression
+unfolding forms least_items
+operand-requires-in-TaggedTemplateExpression c = items_there c.args.on.now TaggedTemplateExpression c.in-TaggedTemplateExpression.ensures (omega arith)
+
+pub call-requires-in-TaggedTemplateExpression-clause-callee : goal.call-requires-in-TaggedTemplateExpression-clause-callee
+unfolding forms least_items
+call-requires-in-TaggedTemplateExpression-clause-callee c = operand_inside c.args.on.now c.requires.ready {k = 0} (items_there c.args.on.now TaggedTemplateExpression c.in-TaggedTemplateExpression.ensures (omega arith)) c.operand-in-TaggedTemplateExpression.ensures
+
+pub call-requires-in-TaggedTemplateExpression-clause-kind : goal.call-requires-in-TaggedTemplateExpression-clause-kind
+unfolding function_kind
+call-requires-in-TaggedTemplateExpression-clause-kind c = (false, refl)
+
+pub alias-requires-clause-items : goal.alias-requires-clause-items
+alias-requires-clause-items c = alias_items c.args.on.now c.kind.ensures c.in-TypeCastExpression.is
+
+pub primitives-requires-clause-items : goal.primitives-requires-clause-items
+primitives-requires-clause-items c = update_items c.args.on.now c.kind.ensures c.in-PrefixUpdate.is
+
+pub returns-in-LoadLocal : goal.returns-in-LoadLocal
 unfolding forms
-returns-in-0 c = same_kind c.requires c.in-0.is c.load_local.ensures
+returns-in-LoadLocal c = same_kind c.args.on.now c.requires.ready LoadLocal c.in-LoadLocal.ensures c.load_local.ensures
 
-pub returns-in-4 : goal.returns-in-4
-returns-in-4 c = store_local_done c.requires c.in-4.is c.store_local.ensures
-
-pub returns-in-5 : goal.returns-in-5
-returns-in-5 c = store_context_done c.requires c.in-5.is c.store_context.ensures
-
-pub returns-in-6 : goal.returns-in-6
+pub returns-in-Destructure : goal.returns-in-Destructure
 unfolding forms
-returns-in-6 c = same_kind c.requires c.in-6.is c.destructure.ensures
+returns-in-Destructure c = same_kind c.args.on.now c.requires.ready Destructure c.in-Destructure.ensures c.destructure.ensures
 
-pub returns-in-7 : goal.returns-in-7
-returns-in-7 c = primitive_done c.requires c.in-7.is c.primitive.ensures
-
-pub returns-in-8 : goal.returns-in-8
-returns-in-8 c = primitives_done c.requires c.in-8.is c.primitive-in-8.ensures
-
-pub returns-in-9 : goal.returns-in-9
-returns-in-9 c = binary_done c.requires c.in-9.is c.binary.ensures
-
-pub returns-in-10 : goal.returns-in-10
-returns-in-10 c = new_done c.requires c.in-10.is c.call.ensures
-
-pub returns-in-11 : goal.returns-in-11
+pub returns-in-CallExpression : goal.returns-in-CallExpression
 unfolding forms
-returns-in-11 c = same_kind c.requires c.in-11.is c.call_expression.ensures
+returns-in-CallExpression c = same_kind c.args.on.now c.requires.ready CallExpression c.in-CallExpression.ensures c.call_expression.ensures
 
-pub returns-in-12 : goal.returns-in-12
-returns-in-12 c = method_done c.requires c.in-12.is c.call-in-12.ensures
-
-pub returns-in-14 : goal.returns-in-14
-returns-in-14 c = alias_done c.requires c.in-14.is c.alias.ensures
-
-pub returns-in-15 : goal.returns-in-15
-returns-in-15 c = jsx_done c.requires c.in-15.is c.jsx_expression.ensures
-
-pub returns-in-16 : goal.returns-in-16
-returns-in-16 c = object_expression_done c.requires c.in-16.is c.object_expression.ensures
-
-pub returns-in-17 : goal.returns-in-17
-returns-in-17 c = object_method_done c.requires c.in-17.is c.object_method.ensures
-
-pub returns-in-18 : goal.returns-in-18
-returns-in-18 c = array_done c.requires c.in-18.is c.object.ensures
-
-pub returns-in-19 : goal.returns-in-19
-returns-in-19 c = fragment_done c.requires c.in-19.is c.object-in-19.ensures
-
-pub returns-in-22 : goal.returns-in-22
+pub returns-in-PropertyStore : goal.returns-in-PropertyStore
 unfolding forms
-returns-in-22 c = same_kind c.requires c.in-22.is c.property_store.ensures
+returns-in-PropertyStore c = same_kind c.args.on.now c.requires.ready PropertyStore c.in-PropertyStore.ensures c.property_store.ensures
 
-pub returns-in-23 : goal.returns-in-23
+pub returns-in-PropertyLoad : goal.returns-in-PropertyLoad
 unfolding forms
-returns-in-23 c = same_kind c.requires c.in-23.is c.property_load.ensures
+returns-in-PropertyLoad c = same_kind c.args.on.now c.requires.ready PropertyLoad c.in-PropertyLoad.ensures c.property_load.ensures
 
-pub returns-in-26 : goal.returns-in-26
+pub returns-in-ComputedLoad : goal.returns-in-ComputedLoad
 unfolding forms
-returns-in-26 c = same_kind c.requires c.in-26.is c.computed_load.ensures
+returns-in-ComputedLoad c = same_kind c.args.on.now c.requires.ready ComputedLoad c.in-ComputedLoad.ensures c.computed_load.ensures
 
-pub returns-in-28 : goal.returns-in-28
-returns-in-28 c = load_global_done c.requires c.in-28.is c.load_global.ensures
+pub returns-in-StoreLocal : goal.returns-in-StoreLocal
+returns-in-StoreLocal c = store_local_done c.args.on.now c.requires.ready c.in-StoreLocal.ensures c.store_local.ensures
 
-pub returns-in-30 : goal.returns-in-30
-returns-in-30 c = function_expression_done c.requires c.in-30.is c.function_expression.ensures
+pub returns-in-StoreContext : goal.returns-in-StoreContext
+returns-in-StoreContext c = store_context_done c.args.on.now c.requires.ready c.in-StoreContext.ensures c.store_context.ensures
 
-pub returns-in-31 : goal.returns-in-31
-returns-in-31 c = tagged_done c.requires c.in-31.is c.call-in-31.ensures
+pub returns-in-BinaryExpression : goal.returns-in-BinaryExpression
+returns-in-BinaryExpression c = binary_done c.args.on.now c.requires.ready c.in-BinaryExpression.ensures c.binary.ensures
 
-pub returns-in-37 : goal.returns-in-37
-returns-in-37 c = prefix_done c.requires c.in-37.is c.primitives.ensures
+pub jsx_expression-requires-clause-names : goal.jsx_expression-requires-clause-names
+jsx_expression-requires-clause-names c = names_in c.requires.ready
 
-pub returns-in-38 : goal.returns-in-38
-returns-in-38 c = postfix_done c.requires c.in-38.is c.primitives-in-38.ensures
+pub returns-in-JsxExpression : goal.returns-in-JsxExpression
+returns-in-JsxExpression c = jsx_done c.args.on.now c.requires.ready c.in-JsxExpression.ensures c.jsx_expression.ensures
 
-pub returns-in_default : goal.returns-in_default
-returns-in_default c = silent_done c.requires c.in_default.in_default-own.rest
+pub returns-in-ObjectExpression : goal.returns-in-ObjectExpression
+returns-in-ObjectExpression c = object_expression_done c.args.on.now c.requires.ready c.in-ObjectExpression.ensures c.object_expression.ensures
 
-pub shape_of-w-in-0 : goal.shape_of-w-in-0
-shape_of-w-in-0 c = (returns-in-0 c).keeps.len
+pub returns-in-ObjectMethod : goal.returns-in-ObjectMethod
+returns-in-ObjectMethod c = object_method_done c.args.on.now c.requires.ready c.in-ObjectMethod.ensures c.object_method.ensures
 
-pub shape_of-w-in-4 : goal.shape_of-w-in-4
-shape_of-w-in-4 c = (returns-in-4 c).keeps.len
+pub returns-in-ArrayExpression : goal.returns-in-ArrayExpression
+returns-in-ArrayExpression c = array_done c.args.on.now c.requires.ready c.in-ArrayExpression.ensures c.object.ensures
 
-pub shape_of-w-in-5 : goal.shape_of-w-in-5
-shape_of-w-in-5 c = (returns-in-5 c).keeps.len
+pub returns-in-JsxFragment : goal.returns-in-JsxFragment
+returns-in-JsxFragment c = fragment_done c.args.on.now c.requires.ready c.in-JsxFragment.ensures c.object-in-JsxFragment.ensures
 
-pub shape_of-w-in-6 : goal.shape_of-w-in-6
-shape_of-w-in-6 c = (returns-in-6 c).keeps.len
+pub returns-in-LoadGlobal : goal.returns-in-LoadGlobal
+returns-in-LoadGlobal c = load_global_done c.args.on.now c.requires.ready c.in-LoadGlobal.ensures c.load_global.ensures
 
-pub shape_of-w-in-7 : goal.shape_of-w-in-7
-shape_of-w-in-7 c = (returns-in-7 c).keeps.len
+pub returns-in-FunctionExpression : goal.returns-in-FunctionExpression
+unfolding forms
+returns-in-FunctionExpression c = same_kind c.args.on.now c.requires.ready FunctionExpression c.in-FunctionExpression.ensures c.function_expression.ensures
 
-pub shape_of-w-in-8 : goal.shape_of-w-in-8
-shape_of-w-in-8 c = (returns-in-8 c).keeps.len
+pub returns-in-Primitive : goal.returns-in-Primitive
+returns-in-Primitive c = primitive_done c.args.on.now c.requires.ready c.kind.ensures c.in-Primitive.is c.primitive.ensures
 
-pub shape_of-w-in-9 : goal.shape_of-w-in-9
-shape_of-w-in-9 c = (returns-in-9 c).keeps.len
+pub returns-in-TypeCastExpression : goal.returns-in-TypeCastExpression
+returns-in-TypeCastExpression c = alias_done c.args.on.now c.requires.ready c.kind.ensures c.in-TypeCastExpression.is c.alias.ensures
 
-pub shape_of-w-in-10 : goal.shape_of-w-in-10
-shape_of-w-in-10 c = (returns-in-10 c).keeps.len
+pub returns-in-PrefixUpdate : goal.returns-in-PrefixUpdate
+returns-in-PrefixUpdate c = update_done c.args.on.now c.requires.ready c.kind.ensures c.in-PrefixUpdate.is c.primitives.ensures
 
-pub shape_of-w-in-11 : goal.shape_of-w-in-11
-shape_of-w-in-11 c = (returns-in-11 c).keeps.len
+pub returns-in-NewExpression : goal.returns-in-NewExpression
+returns-in-NewExpression c = new_done c.args.on.now c.requires.ready c.in-NewExpression.ensures c.operand.ensures c.call.ensures
 
-pub shape_of-w-in-12 : goal.shape_of-w-in-12
-shape_of-w-in-12 c = (returns-in-12 c).keeps.len
+pub returns-in-MethodCall : goal.returns-in-MethodCall
+returns-in-MethodCall c = method_done c.args.on.now c.requires.ready c.in-MethodCall.ensures c.operand-in-MethodCall.ensures c.call-in-MethodCall.ensures
 
-pub shape_of-w-in-14 : goal.shape_of-w-in-14
-shape_of-w-in-14 c = (returns-in-14 c).keeps.len
+pub returns-in-TaggedTemplateExpression : goal.returns-in-TaggedTemplateExpression
+returns-in-TaggedTemplateExpression c = tagged_done c.args.on.now c.requires.ready c.in-TaggedTemplateExpression.ensures c.operand-in-TaggedTemplateExpression.ensures c.call-in-TaggedTemplateExpression.ensures
 
-pub shape_of-w-in-15 : goal.shape_of-w-in-15
-shape_of-w-in-15 c = (returns-in-15 c).keeps.len
-
-pub shape_of-w-in-16 : goal.shape_of-w-in-16
-shape_of-w-in-16 c = (returns-in-16 c).keeps.len
-
-pub shape_of-w-in-17 : goal.shape_of-w-in-17
-shape_of-w-in-17 c = (returns-in-17 c).keeps.len
-
-pub shape_of-w-in-18 : goal.shape_of-w-in-18
-shape_of-w-in-18 c = (returns-in-18 c).keeps.len
-
-pub shape_of-w-in-19 : goal.shape_of-w-in-19
-shape_of-w-in-19 c = (returns-in-19 c).keeps.len
-
-pub shape_of-w-in-22 : goal.shape_of-w-in-22
-shape_of-w-in-22 c = (returns-in-22 c).keeps.len
-
-pub shape_of-w-in-23 : goal.shape_of-w-in-23
-shape_of-w-in-23 c = (returns-in-23 c).keeps.len
-
-pub shape_of-w-in-26 : goal.shape_of-w-in-26
-shape_of-w-in-26 c = (returns-in-26 c).keeps.len
-
-pub shape_of-w-in-28 : goal.shape_of-w-in-28
-shape_of-w-in-28 c = (returns-in-28 c).keeps.len
-
-pub shape_of-w-in-30 : goal.shape_of-w-in-30
-shape_of-w-in-30 c = (returns-in-30 c).keeps.len
-
-pub shape_of-w-in-31 : goal.shape_of-w-in-31
-shape_of-w-in-31 c = (returns-in-31 c).keeps.len
-
-pub shape_of-w-in-37 : goal.shape_of-w-in-37
-shape_of-w-in-37 c = (returns-in-37 c).keeps.len
-
-pub shape_of-w-in-38 : goal.shape_of-w-in-38
-shape_of-w-in-38 c = (returns-in-38 c).keeps.len
+pub returns-in-LoadContext : goal.returns-in-LoadContext
+returns-in-LoadContext c = silent_done c.args.on.now c.requires.ready c.kind.ensures c.in-LoadContext.is

@@ -1,14 +1,12 @@
 use Rattle.run_naming.proofs.NameLogs.{shape_off, shape_set, shape_other}
 use Rattle.run_naming.proofs.callee_shape.Goals as goal
 
-pub returns-then-img-ne1 : goal.returns-then-img-ne1
-returns-then-img-ne1 c = shape_off c.if-img-ne1.true
-
-pub logged_name-requires : goal.logged_name-requires
-logged_name-requires c = c.requires
+pub returns-then-not-treats_setters : goal.returns-then-not-treats_setters
+returns-then-not-treats_setters c = shape_off c.treats_setters.ensures c.if-not-treats_setters.true
 
 pub returns-then-starts_with_set : goal.returns-then-starts_with_set
-returns-then-starts_with_set c = shape_set c.if-img-ne1.false c.logged_name.ensures c.starts_with_set.ensures c.if-starts_with_set.true
+returns-then-starts_with_set c =
+    shape_set c.treats_setters.ensures c.if-not-treats_setters.false c.logged_name.ensures c.starts_with_set.ensures c.if-starts_with_set.true
 
 pub returns : goal.returns
-returns c = shape_other c.if-img-ne1.false c.logged_name.ensures c.starts_with_set.ensures c.if-starts_with_set.false
+returns c = shape_other c.treats_setters.ensures c.if-not-treats_setters.false c.logged_name.ensures c.starts_with_set.ensures c.if-starts_with_set.false

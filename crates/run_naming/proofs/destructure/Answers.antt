@@ -1,31 +1,21 @@
-use native.Mathlib.Omega.{arith}
-use Rattle.run_naming.proofs.Accessing.{words_inside}
-use Rattle.run_naming.proofs.Patterns.{array_destructures, object_destructures}
+use Rattle.unifier_nodes.proofs.Promised.{handed_on}
+use Rattle.run_walk.proofs.Composing.{ready_on}
+use Rattle.run_naming.proofs.Patterns.{items_none, items_on, items_end, items_refused}
 use Rattle.run_naming.proofs.destructure.Goals as goal
 
-pub overflow_add-at : goal.overflow_add-at
-overflow_add-at c = let i = words_inside c.requires.0 in omega arith
+pub loop-k-init : goal.loop-k-init
+loop-k-init c = items_none c.args.on.now _ _
 
-pub offset_bounds-img-at : goal.offset_bounds-img-at
-offset_bounds-img-at c = let i = words_inside c.requires.0 in omega arith
+pub pattern_item-requires-clause-ready : goal.pattern_item-requires-clause-ready
+pattern_item-requires-clause-ready c = ready_on c.requires.ready c.loop-k.invariant
 
-pub bounds-img-at : goal.bounds-img-at
-bounds-img-at c = let i = words_inside c.requires.0 in omega arith
+pub returns-in_err-pattern_item : goal.returns-in_err-pattern_item
+returns-in_err-pattern_item c =
+    rw (handed_on _ c.from_residual.ensures.1)
+    (items_refused c.args.on.now c.requires.items c.items-last.ensures c.item.ensures c.from-pattern.ensures c.aux.ensures c.loop-k.invariant c.loop-k-test.true c.in_err-pattern_item.ensures)
 
-pub array_pattern-requires : goal.array_pattern-requires
-array_pattern-requires c = c.requires.0
-
-pub shape_of-w-then-img-at-eq0 : goal.shape_of-w-then-img-at-eq0
-shape_of-w-then-img-at-eq0 c = c.array_pattern.ensures.keeps.len
-
-pub returns-then-img-at-eq0 : goal.returns-then-img-at-eq0
-returns-then-img-at-eq0 c = array_destructures c.args.at c.if-img-at-eq0.true c.array_pattern.ensures
-
-pub object_pattern-requires : goal.object_pattern-requires
-object_pattern-requires c = c.requires.0
-
-pub shape_of-w : goal.shape_of-w
-shape_of-w c = c.object_pattern.ensures.keeps.len
+pub loop-k-preserved : goal.loop-k-preserved
+loop-k-preserved c = items_on c.args.on.now _ _ _ c.loop-k.invariant c.in_ok-pattern_item.ensures
 
 pub returns : goal.returns
-returns c = object_destructures c.args.at c.if-img-at-eq0.false c.object_pattern.ensures
+returns c = items_end c.args.on.now c.requires.items c.items-last.ensures c.item.ensures c.from-pattern.ensures c.aux.ensures c.loop-k.invariant c.loop-k.auto.k-end c.loop-k-test.false

@@ -1,29 +1,29 @@
-use mathlib.Core.Path.{◌∙◌}
-use native.Mathlib.Omega.{arith}
-use borrow.Author.Rules.{rules}
-use Rattle.run_naming.proofs.NameLogs.{left_all, left_none, left_two, left_number, left_found, left_later}
+use Rattle.std.proofs.Common.{arith}
+use Rattle.run_walk.proofs.Composing.{names_in}
+use Rattle.run_naming.proofs.NameLogs.{log_inside, log_all, entry_long, entry_number, entry_found, entry_other, entries_gone}
 use Rattle.run_naming.proofs.logged_name.Goals as goal
 
-pub loop-k-init : goal.loop-k-init
-loop-k-init c = (search rules, λ ns l. left_all l)
+pub slice_bounds-log-end : goal.slice_bounds-log-end
+slice_bounds-log-end c = log_inside c.requires.ready
 
-pub overflow_sub-k : goal.overflow_sub-k
-overflow_sub-k c = let p = c.requires in omega (arith, left_two (c.loop-k.invariant.1 p.names p.logged) c.loop-k-test.true)
+pub loop-entry-init : goal.loop-entry-init
+loop-entry-init c =
+    let e = c.rchunks_exact-entry-items.ensures in rw c.into_iter-entry-iterator.ensures.into_iter_gives (log_all c.requires.ready _ e.parts e.remainder_len e.size)
 
-pub bounds-w-k : goal.bounds-w-k
-bounds-w-k c = let p = c.requires in omega arith
+pub bounds-entry-1 : goal.bounds-entry-1
+bounds-entry-1 c = omega (arith, entry_long c.requires.ready _ _ c.loop-entry.invariant c.in-Some.ensures.steps.2)
 
-pub bounds-w-k-then-w-k : goal.bounds-w-k-then-w-k
-bounds-w-k-then-w-k c = let p = c.requires in omega (arith, left_two (c.loop-k.invariant.1 p.names p.logged) c.loop-k-test.true)
+pub name-requires-clause-names : goal.name-requires-clause-names
+name-requires-clause-names c = names_in c.requires.ready
 
-pub name_bytes-requires : goal.name_bytes-requires
-name_bytes-requires c = let p = c.requires in (p.inside, left_number (c.loop-k.invariant.1 p.names p.logged) c.loop-k-test.true)
+pub name-requires-clause-row : goal.name-requires-clause-row
+name-requires-clause-row c = entry_number c.requires.ready _ _ c.loop-entry.invariant c.in-Some.ensures.steps.2
 
-pub returns-then-w-k : goal.returns-then-w-k
-returns-then-w-k c = record { is = λ ns l. c.name_bytes.ensures ∙ left_found (c.loop-k.invariant.1 ns l) c.loop-k-test.true c.if-w-k.true }
+pub returns-then-entry-id : goal.returns-then-entry-id
+returns-then-entry-id c = entry_found c.requires.ready _ _ c.loop-entry.invariant c.in-Some.ensures.steps.2 c.if-entry-id.true c.name.ensures
 
-pub loop-k-preserved : goal.loop-k-preserved
-loop-k-preserved c = (search rules, λ ns l. left_later (c.loop-k.invariant.1 ns l) c.loop-k-test.true c.if-w-k.false)
+pub loop-entry-preserved : goal.loop-entry-preserved
+loop-entry-preserved c = entry_other c.requires.ready _ _ c.loop-entry.invariant c.in-Some.ensures.steps.2 c.if-entry-id.false c.in-Some.ensures.steps.0
 
 pub returns : goal.returns
-returns c = record { is = λ ns l. left_none (c.loop-k.invariant.1 ns l) c.loop-k-test.false }
+returns c = entries_gone c.requires.ready c.loop-entry.invariant c.in-None.ensures.steps.2.0

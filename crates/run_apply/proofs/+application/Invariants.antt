@@ -1,6 +1,6 @@
 use Rattle.std.proofs.Common.{◌+◌, ◌*◌, ◌-◌}
 use Rattle.run_apply.proofs.ApplyLoops.{Left, instructions_course, blocks_course}
-use Rattle.run_apply.proofs.Pass.+application.Given as goal
+use Rattle.run_apply.proofs.+application.Given as goal
 
 abbrev pub decreases-apply_block : goal.decreases-apply_block
 decreases-apply_block l = 6 * (65536 - l.f) + 2
@@ -21,7 +21,7 @@ abbrev pub decreases-apply_instructions : goal.decreases-apply_instructions
 decreases-apply_instructions l = 6 * (65536 - l.f) + 1
 
 abbrev pub invariant-apply_blocks-loop : goal.invariant-apply_blocks-loop
-invariant-apply_blocks-loop l = Left (blocks_course l.self.image.now l.f) l.self.image.now l.self.lay l.from l.n l.fn.unifier l.unifier l.counter l.at
+invariant-apply_blocks-loop l = Left (blocks_course l.env.image.now l.f) l.env.image.now l.env.lay l.from l.n l.fn.unifier l.unifier l.counter l.at
 
 abbrev pub invariant-apply_instructions-loop : goal.invariant-apply_instructions-loop
-invariant-apply_instructions-loop l = Left (instructions_course l.self.image.now l.f) l.self.image.now l.self.lay l.from l.n l.fn.unifier l.unifier l.counter l.at
+invariant-apply_instructions-loop l = Left (instructions_course l.env.image.now l.f) l.env.image.now l.env.lay l.from l.n l.fn.unifier l.unifier l.counter l.at
