@@ -11,17 +11,17 @@ use Rattle.infer.specs.Entry.{Infers}
 use Rattle.infer.specs.Run.{Runs}
 use Rattle.run_answer.specs.declared.Answer.{Answer as Answered}
 use Rattle.run_definition.proofs.Demand.{run_number, tables_sound}
-use Rattle.run_answer.proofs.LentLaws.{put_none, cleared_all}
+use Rattle.run_answer.proofs.LentLaws.{put_none}
 use Rattle.run_solve.proofs.Lending.{all_cleared}
 
 -- the answer where it passes, and the work words once all are cleared
-pub infers_passed : {img bytes w w₂ w₃ t t' : List ℕ} {budget : ℕ} {r : Answered} → check img bytes budget (length w) ≡ 0 → Runs img bytes budget (take (8 * (length img + budget)) w) w₂ t t' r
+pub infers_passed : {img bytes w w₃ t t' : List ℕ} {budget : ℕ} {r : Answered} (w₂ : List ℕ) → check img bytes budget (length w) ≡ 0 → length w₂ ≡ length (take (8 * (length img + budget)) w) → Runs img bytes budget t t' r
     → w₃ ≡ replicate (length (w₂ ++ drop (8 * (length img + budget)) w)) 0 → Infers img bytes budget w w₃ t t' r
 unfolding infer after_check
-infers_passed {img} {bytes} {w} {w₂} {t = t} {budget = budget} e runs f = record {
+infers_passed {img} {bytes} {w} {t = t} {budget = budget} w₂ e len runs f = record {
   answers = runs.answers ∙ sym (ap (λ o. o.answer) output);
   writes = runs.writes ∙ sym (ap (λ o. put t 0 o.tables) output);
-  clears = all_cleared img bytes budget w e w₂ runs.len (f ∙ sym (cleared_all _));
+  clears = all_cleared img bytes budget w e w₂ len f;
   sound = λ p. record { number = run_number img bytes budget (length w) (length t) p; tables = tables_sound img bytes budget (length w) (length t) p };
 }
   where

@@ -1,9 +1,11 @@
 -- What `run` leaves in the table words: the tables of a run that is done, and no word in a refusal. Assumes nothing.
 use Prim.Native.Nat.{ℕ}
-use mathlib.Core.Path.{◌≡◌, refl, sym, ap, ◌∙◌}
+use mathlib.Core.Path.{refl, sym, ap, ◌∙◌}
 use mathlib.Core.List.{List}
 use lib.ListN.{length}
+use Rattle.std.specs.Prelude.{Ok, Err}
 use Rattle.run_answer.specs.Lent.{put}
+use Rattle.run_answer.specs.declared.Answer.{Answer as Answered}
 use Rattle.run_answer.proofs.LentLaws.{put_none}
 use Rattle.run_tables.specs.Writing.{WriteAsked, Writes}
 use Rattle.run_solve.specs.Solve.{Solves}
@@ -11,16 +13,16 @@ use Rattle.run_solve.specs.declared.Solved.{Solved}
 use Rattle.run_solve.proofs.SolvedLaws.{stopped_tables, write_asked, tables_written}
 use Rattle.infer.specs.Run.{Runs}
 
-module _ {img bytes w w' t : List ℕ} {budget : ℕ} {r : Solved} (S : Solves img bytes budget w w' (length t) r) where
+module _ {img bytes t : List ℕ} {budget : ℕ} where
   -- a refusal
-  pub runs_stopped : (r.answer.number ≡ 0 → ⊥) → Runs img bytes budget w w' t t r.answer
-  runs_stopped h = record { answers = S.answers; writes = sym (ap (put t 0) (stopped_tables S h) ∙ put_none t 0); len = S.len }
+  pub runs_stopped : {r : Answered} → Solves img bytes budget (length t) (Err r) → Runs img bytes budget t t r
+  runs_stopped S = record { answers = S.answers; writes = sym (ap (put t 0) (stopped_tables S) ∙ put_none t 0) }
 
-  module _ (z : r.answer.number ≡ 0) where
+  module _ {s : Solved} (S : Solves img bytes budget (length t) (Ok s)) where
     -- what `write` asks
-    pub asks_write : WriteAsked w' r.lay r.answer.slots t
-    asks_write = write_asked S z refl (S.stands z).resolved
+    pub asks_write : WriteAsked s.words.now s.lay s.answer.slots t
+    asks_write = write_asked S refl S.stands.resolved
 
     -- and a run that is done
-    pub runs_done : {t' : List ℕ} → Writes w' r.lay r.answer.slots t t' → Runs img bytes budget w w' t t' r.answer
-    runs_done W = record { answers = S.answers; writes = tables_written S z refl (S.stands z).resolved W; len = S.len }
+    pub runs_done : {t' : List ℕ} → Writes s.words.now s.lay s.answer.slots t t' → Runs img bytes budget t t' s.answer
+    runs_done W = record { answers = S.answers; writes = tables_written S refl S.stands.resolved W }

@@ -6,7 +6,6 @@ use Rattle.run_answer.specs.Lent.{put, answer_of}
 use Rattle.run_answer.specs.declared.Answer.{Answer as Answered}
 
 -- the promise of `run`: the definition's answer and table words
-pub record Runs (img bytes : List ℕ) (budget : ℕ) (w w' t t' : List ℕ) (r : Answered) : Type 0 where
+pub record Runs (img bytes : List ℕ) (budget : ℕ) (t t' : List ℕ) (r : Answered) : Type 0 where
   pub answers : answer_of r ≡ (output_of budget (length t) (infer_types (program img bytes) budget)).answer
   pub writes : t' ≡ put t 0 (output_of budget (length t) (infer_types (program img bytes) budget)).tables
-  pub len : length w' ≡ length w

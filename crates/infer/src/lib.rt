@@ -1,25 +1,28 @@
 // The run: from image check to tables.
 #![tactic(auto)]
 
+ghost use Rattle.std.specs.Prelude.{◌≡◌, length};
 ghost use Rattle.infer.specs.Entry.{Infers};
 ghost use Rattle.infer.specs.Run.{Runs};
 ghost use Rattle.run_solve.specs.Solve.{RunAsked};
 
 use image::WORK_WORDS_EACH;
 pub use run_answer::Answer;
+use run_solve::Solved;
 
 // Everything after the check, in as many work words as it takes.
 fn run(img: &[u32], bytes: &[u8], budget: u32, w: &mut [u32], tables: &mut [u32]) -> Answer
     requires { RunAsked img.now bytes.now budget w.old }
-    ensures { Runs img.now bytes.now budget w.old w.new tables.old tables.new result }
+    ensures runs { Runs img.now bytes.now budget tables.old tables.new result }
+    ensures len { length w.new ≡ length w.old }
 {
-    let solved = run_solve::solve(img, bytes, budget, w, tables.len());
-    let answer = solved.answer;
-    if answer.number != 0 {
-        return answer;
+    match run_solve::solve(img, bytes, budget, w, tables.len()) {
+        Ok(Solved { answer, lay, words }) => {
+            run_tables::write(words, lay, answer.slots, tables);
+            answer
+        }
+        Err(refused) => refused,
     }
-    run_tables::write(w, solved.lay, answer.slots, tables);
-    answer
 }
 
 // The image check, and then the run.

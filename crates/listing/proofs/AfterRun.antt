@@ -6,6 +6,7 @@ use mathlib.Core.Option.{Option}
 use mathlib.Core.List.{List, flat_map}
 use lib.ListN.{length, get_or, take, drop}
 use Rattle.std.proofs.lemmas.List.{length-take, length-drop, get_or-take, get_or-drop, get_or_default, same_lists}
+use Rattle.std.specs.Prelude.{Ok}
 use Rattle.image.specs.Ty.{Ty}
 use Rattle.image.specs.declared.Table.TheVariants.{Slots, Types, Lists}
 use Rattle.image.specs.Program.{program}
@@ -24,7 +25,8 @@ use Rattle.run_layout.specs.declared.Layout.{Layout}
 use Rattle.run_tables.specs.Standing.{ResolvedRun}
 use Rattle.run_tables.proofs.Finishing.{resolved_good}
 use Rattle.run_walk.proofs.Composing.{LayoutAt, layout_at}
-use Rattle.run_solve.specs.Solve.{RunAsked, Solves}
+use Rattle.run_definition.specs.Fitting.{Passed}
+use Rattle.run_solve.specs.Solve.{Solves}
 use Rattle.run_solve.specs.declared.Solved.{Solved}
 use Rattle.run_solve.proofs.SolvedLaws.{solved, slot_bindings, Stand, many}
 use Rattle.listing_definition.specs.Listing.{listed_from, listing_of}
@@ -65,18 +67,21 @@ part_is w xs from n m h each =
     get_or-take (from + n - from) (drop from w) i d j ∙ get_or-drop from w i d ∙ get_or_default w (from + i) d 0 (omega arith) ∙ each i k
     ∙ get_or_default xs i 0 d (omega arith))
 
-module _ {img bytes w w₁ : List ℕ} {budget lent : ℕ} {s : Solved} (A : RunAsked img bytes budget w) (S : Solves img bytes budget w w₁ lent s) (z : s.answer.number ≡ 0) where
+module _ {img bytes : List ℕ} {budget lent : ℕ} {s : Solved} (A : Passed img bytes budget) (S : Solves img bytes budget lent (Ok s)) where
   c : CheckedImage img bytes budget
-  c = checked A.passed
+  c = checked A
+
+  abbrev w₁ : List ℕ
+  w₁ = s.words.now
 
   abbrev lay : Layout
   lay = s.lay
 
   abbrev bs : List Binding
-  bs = slot_bindings S z
+  bs = slot_bindings S
 
   layout : LayoutAt img budget lay
-  layout = layout_at (solved S z).laid
+  layout = layout_at (solved S).laid
 
   pub steps_are : steps_of lay ≡ budget
   steps_are = let f = layout in omega arith
@@ -88,21 +93,21 @@ module _ {img bytes w w₁ : List ℕ} {budget lent : ℕ} {s : Solved} (A : Run
       let a = tables.table Slots in
       let b = tables.table Types in
       let d = tables.table Lists in
-      let e = S.len in
+      let e = (solved S).long in
       record {
         slots = omega arith;
         log = omega (arith, steps_are);
         entries = omega (arith, steps_are);
-        marks = omega (arith, A.long, laid_after img c.header Slots);
-        small = omega (arith, A.long, c.short, c.steps);
+        marks = omega (arith, laid_after img c.header Slots);
+        small = omega (arith, c.short, c.steps);
       }
 
-  same : lookup bs ≡ lookup (solved S z).final.log
-  same = ap (λ (n : ℕ). lookup (binding_rows (solved S z).final.log n)) (sym (many S z)) ∙ same_bindings (scoped_program img bytes c) (run_finished (program img bytes) budget (solved S z).is)
+  same : lookup bs ≡ lookup (solved S).final.log
+  same = ap (λ (n : ℕ). lookup (binding_rows (solved S).final.log n)) (sym (many S)) ∙ same_bindings (scoped_program img bytes c) (run_finished (program img bytes) budget (solved S).is)
 
   short : 2 + length (flat_map written_binding bs) ≤ 2 * steps_of lay
   short =
-      omega (arith, steps_are, ap (λ (n : ℕ). length (flat_map written_binding (binding_rows (solved S z).final.log n))) (sym (many S z)), bindings_short (scoped_program img bytes c) (run_finished (program img bytes) budget (solved S z).is))
+      omega (arith, steps_are, ap (λ (n : ℕ). length (flat_map written_binding (binding_rows (solved S).final.log n))) (sym (many S)), bindings_short (scoped_program img bytes c) (run_finished (program img bytes) budget (solved S).is))
 
   -- what is counted fits a word
   pub counted_few : (slot : ℕ) → length (listing_of bs slot) < 2 ^ 32
@@ -112,7 +117,7 @@ module _ {img bytes w w₁ : List ℕ} {budget lent : ℕ} {s : Solved} (A : Run
     -- what `list_variables` asks
     pub asks_variables : ListsAsked w₁ lay slot
     asks_variables =
-        let R = (solved S z).resolved in
+        let R = (solved S).resolved in
         record {
           bs = bs;
           stands = record { top = R.top; under = R.inside; good = good_rows same R.good; places = places };
@@ -121,8 +126,8 @@ module _ {img bytes w w₁ : List ℕ} {budget lent : ℕ} {s : Solved} (A : Run
         }
 
     module _ {w₂ : List ℕ} {n order : ℕ} (L : ListsAll w₁ w₂ lay slot n) (e : order ≡ order_at lay) where
-      pub still_stands : Stand S z w₂
-      still_stands = resolved_kept L.keeps (solved S z).resolved
+      pub still_stands : Stand S w₂
+      still_stands = resolved_kept L.keeps (solved S).resolved
 
       pub still_good : Good w₂ lay.lo (length w₂) bs
       still_good = good_rows same (resolved_good still_stands)

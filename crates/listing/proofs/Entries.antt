@@ -8,7 +8,6 @@ use Rattle.image.specs.Program.{program}
 use Rattle.run_definition.specs.Infer.{Output, infer_types, refusal, after_check, infer}
 use Rattle.run_definition.specs.More.{WithMore, after_run, bindings_of}
 use Rattle.run_answer.specs.Lent.{answer_of, work_after}
-use Rattle.run_answer.proofs.LentLaws.{cleared_all}
 use Rattle.run_solve.proofs.Lending.{all_cleared}
 use Rattle.listing_definition.specs.Listing.{listing_with, listing}
 use Rattle.listing_definition.proofs.Sound.{after_refused, listing_number, listing_sound}
@@ -28,13 +27,13 @@ module _ (img bytes w : List ℕ) (budget : ℕ) (t l : List ℕ) (slot : ℕ) w
 
 module _ {img bytes w : List ℕ} {budget : ℕ} {t l : List ℕ} {slot : ℕ} where
   -- the answer where the check passes, and the work words once all are cleared
-  pub lists_passed : {w₂ w₃ t' l' : List ℕ} {r : ListingAnswer} → check img bytes budget (length w) ≡ 0 → RunsListing img bytes budget (take (8 * (length img + budget)) w) w₂ t t' slot l l' r
+  pub lists_passed : {w₃ t' l' : List ℕ} {r : ListingAnswer} (w₂ : List ℕ) → check img bytes budget (length w) ≡ 0 → length w₂ ≡ length (take (8 * (length img + budget)) w) → RunsListing img bytes budget t t' slot l l' r
       → w₃ ≡ replicate (length (w₂ ++ drop (8 * (length img + budget)) w)) 0 → Lists img bytes budget w w₃ t t' slot l l' r
   unfolding after_check
-  lists_passed {w₂} {t' = t'} {l' = l'} {r = r} e runs f =
+  lists_passed {t' = t'} {l' = l'} {r = r} w₂ e len runs f =
       record {
-        gives = subst (λ (m : WithMore). Gives m t t' l l' r) (sym (defined_as img bytes w budget t l slot e)) runs.gives;
-        clears = all_cleared img bytes budget w e w₂ runs.len (f ∙ sym (cleared_all _));
+        gives = subst (λ (m : WithMore). Gives m t t' l l' r) (sym (defined_as img bytes w budget t l slot e)) runs;
+        clears = all_cleared img bytes budget w e w₂ len f;
         sound = λ p. record { number = listing_number img bytes budget (length w) (length t) slot (length l) p; listing = listing_sound img bytes budget (length w) (length t) slot (length l) p };
       }
 

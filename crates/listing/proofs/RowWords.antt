@@ -1,5 +1,5 @@
 -- The rows of a listing are put out one after another. Assumes nothing.
-use Prim.Native.Nat.{ℕ, ◌+◌, ◌-◌, ◌≤◌, ◌<◌}
+use Prim.Native.Nat.{ℕ, ◌+◌, ◌≤◌, ◌<◌}
 use native.Mathlib.Numerals.{add-one}
 use mathlib.Core.Path.{◌≡◌, refl, sym, ap, subst, ◌∙◌}
 use mathlib.Core.Option.{none, some}
@@ -9,7 +9,7 @@ use lib.Seq.{drop-cons}
 use Rattle.image.specs.Ty.{NONE, Ty, written}
 use Rattle.unifier_definition.specs.Log.{Binding, lookup}
 use Rattle.unifier_nodes.specs.Work.{at, Rep, Good}
-use Rattle.unifier_nodes.proofs.Getting.{is_free, is_bound}
+use Rattle.unifier_nodes.proofs.Getting.{is_free, bound_to}
 use Rattle.run_tables.specs.Output.{Sink, Target, target, emit, has_room, Lawful, writing}
 use Rattle.run_tables.specs.Writing.{Asks, Emits}
 use Rattle.run_tables.proofs.Sinks.{room_first, room_second, emit_both, written_name, written_sets}
@@ -43,14 +43,14 @@ module _ {S : Type 0} {k : Sink S} {w : List ℕ} {lo x : ℕ} {s : Target S} (A
     emits_unbound e = record { is = λ bs g. e ∙ ap (emit k s) (sym (shown_unbound bs g)) }
 
   -- a bound one
-  module _ (z : at w x ≡ 0 → ⊥) where
-    shown_bound : (bs : List Binding) → Good w lo (length w) bs → (t : Ty) × (listing_row bs x ≡ (x ∷ []) ++ written t) × Rep w lo (length w) (at w x - 1) t
-    shown_bound bs g = let q = is_bound z (g.binds x A.low) in (q.0, row_bound bs x q.0 q.1, q.2)
+  module _ {m : ℕ} (z : at w x ≡ m + 1) where
+    shown_bound : (bs : List Binding) → Good w lo (length w) bs → (t : Ty) × (listing_row bs x ≡ (x ∷ []) ++ written t) × Rep w lo (length w) m t
+    shown_bound bs g = let q = bound_to z (g.binds x A.low) in (q.0, row_bound bs x q.0 q.1, q.2)
 
-    pub asks_type : {s₁ : Target S} → Lawful k → s₁ ≡ emit k s (x ∷ []) → Asks k w lo (at w x - 1) s₁
+    pub asks_type : {s₁ : Target S} → Lawful k → s₁ ≡ emit k s (x ∷ []) → Asks k w lo m s₁
     asks_type law e = let q = shown_bound A.bs A.good in record { t = q.0; rep = q.2; room = room_second law _ (x ∷ []) (written q.0) q.1 e A.room }
 
-    pub emits_bound : {s₁ s' : Target S} → s₁ ≡ emit k s (x ∷ []) → Emits k w lo (at w x - 1) s₁ s' → EmitsListingRow k w lo x s s'
+    pub emits_bound : {s₁ s' : Target S} → s₁ ≡ emit k s (x ∷ []) → Emits k w lo m s₁ s' → EmitsListingRow k w lo x s s'
     emits_bound e E = record { is = λ bs g. let q = shown_bound bs g in emit_both k _ (x ∷ []) (written q.0) q.1 e (E.is q.0 q.2) }
 
 -- the next row

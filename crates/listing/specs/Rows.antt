@@ -46,9 +46,8 @@ pub record WritesListing (w : List ℕ) (lo : ℕ) (xs t t' : List ℕ) : Type 0
   pub is : (bs : List Binding) → Good w lo (length w) bs → t' ≡ sets t 0 (flat_map (listing_row bs) xs)
 
 -- the promise of `run`
-pub record RunsListing (img bytes : List ℕ) (budget : ℕ) (w w' t t' : List ℕ) (slot : ℕ) (l l' : List ℕ) (r : ListingAnswer) : Type 0 where
-  pub gives :
-      let out = infer_types (program img bytes) budget in
-      let o = output_of budget (length t) out in
-      Gives (after_run o (listing_with (bindings_of out) slot (length l) o)) t t' l l' r
-  pub len : length w' ≡ length w
+abbrev pub RunsListing : (img bytes : List ℕ) (budget : ℕ) (t t' : List ℕ) (slot : ℕ) (l l' : List ℕ) → ListingAnswer → Type 0
+RunsListing img bytes budget t t' slot l l' r =
+    let out = infer_types (program img bytes) budget in
+    let o = output_of budget (length t) out in
+    Gives (after_run o (listing_with (bindings_of out) slot (length l) o)) t t' l l' r

@@ -1,5 +1,5 @@
 -- A listing on its way: one variable is listed, and those in its binding are pending. Assumes nothing.
-use Prim.Native.Nat.{ℕ, ◌+◌, ◌-◌, ◌≤◌, ◌<◌}
+use Prim.Native.Nat.{ℕ, ◌+◌, ◌≤◌, ◌<◌}
 use native.Mathlib.Omega.{arith}
 use mathlib.Core.Path.{◌≡◌, refl, sym, ap, subst, ◌∙◌}
 use mathlib.Core.Option.{Option, none, some}
@@ -11,7 +11,7 @@ use Rattle.image.specs.Ty.{Ty, variables}
 use Rattle.unifier_definition.specs.Log.{Binding, lookup}
 use Rattle.unifier_nodes.specs.Work.{at, Rep, Bound, bound}
 use Rattle.unifier_nodes.proofs.Frames.{rep_same}
-use Rattle.unifier_nodes.proofs.Getting.{is_free, is_bound}
+use Rattle.unifier_nodes.proofs.Getting.{is_free, bound_to}
 use Rattle.run_layout.specs.declared.Layout.{Layout}
 use Rattle.listing_definition.specs.Listing.{inside}
 use Rattle.listing_definition.proofs.Unlisted.{inside_taken}
@@ -78,23 +78,22 @@ module _ {w : List ℕ} {lay : Layout} {n x end : ℕ} (a : ListAsked w lay n x 
   pub inside_unbound : at marked x ≡ 0 → inside a.bs x ≡ []
   inside_unbound z = inside_none a.bs x (is_free (sym binding_word ∙ z) binding)
 
-  module _ (z : at marked x ≡ 0 → ⊥) where
-    node : (t : Ty) × (lookup a.bs x ≡ some t) × Rep w lay.lo a.stands.top (at w x - 1) t
-    node = is_bound (λ e. z (binding_word ∙ e)) binding
+  module _ (m : ℕ) (z : at marked x ≡ m + 1) where
+    node : (t : Ty) × (lookup a.bs x ≡ some t) × Rep w lay.lo a.stands.top m t
+    node = bound_to (sym binding_word ∙ z) binding
 
     inside_bound : inside a.bs x ≡ variables node.0
     inside_bound = inside_some a.bs x node.0 node.1
 
-    node_rep : Rep marked lay.lo end (at marked x - 1) node.0
+    node_rep : Rep marked lay.lo end m node.0
     node_rep =
         let s = a.stands in
         let o = end_over in
         let l = low_log in
-        subst (λ (v : ℕ). Rep marked lay.lo end (v - 1) node.0) (sym binding_word)
-        (rep_same marked end (omega (arith, s.under)) (λ k p q. marked_below k (omega (arith, s.under))) node.2)
+        rep_same marked end (omega (arith, s.under)) (λ k p q. marked_below k (omega (arith, s.under))) node.2
 
     -- what `push_variables` asks
-    pub push_asked : PushAsked marked lay.lo (at marked x - 1) end
+    pub push_asked : PushAsked marked lay.lo m end
     push_asked =
         let i = inside_taken a.bs x a.listed a.new in
         record {
@@ -104,7 +103,7 @@ module _ {w : List ℕ} {lay : Layout} {n x end : ℕ} (a : ListAsked w lay n x 
           small = omega (arith, P.small, marked_length);
         }
 
-    pub pushed_inside : {w' : List ℕ} {r : ℕ} → Pushes marked w' lay.lo (at marked x - 1) end r → Pushed marked w' (inside a.bs x) end r
+    pub pushed_inside : {w' : List ℕ} {r : ℕ} → Pushes marked w' lay.lo m end r → Pushed marked w' (inside a.bs x) end r
     pushed_inside {w'} {r} p = subst (λ (xs : List ℕ). Pushed marked w' xs end r) (sym inside_bound) (p.is node.0 node_rep)
 
   -- variables in a binding are slots
@@ -150,5 +149,5 @@ lists_unbound {w} {lay} {n} {x} {end} a z = record { keeps = one_keeps a (none a
     none : (b : ListAsked w lay n x end) → Pushed (marked a) (marked a) (inside b.bs x) end end
     none b = subst (λ (xs : List ℕ). Pushed (marked a) (marked a) xs end end) (sym (inside_unbound b z)) (pushed_none (marked a) end)
 
-pub lists_bound : {w w' : List ℕ} {lay : Layout} {n x end r : ℕ} (a : ListAsked w lay n x end) → (at (marked a) x ≡ 0 → ⊥) → Pushes (marked a) w' lay.lo (at (marked a) x - 1) end r → ListsOne w w' lay n x end r
-lists_bound a z p = record { keeps = one_keeps a (pushed_inside a z p); walking = λ b. one_walking b (pushed_inside b z p) }
+pub lists_bound : {w w' : List ℕ} {lay : Layout} {n x end r m : ℕ} (a : ListAsked w lay n x end) → at (marked a) x ≡ m + 1 → Pushes (marked a) w' lay.lo m end r → ListsOne w w' lay n x end r
+lists_bound a z p = record { keeps = one_keeps a (pushed_inside a _ z p); walking = λ b. one_walking b (pushed_inside b _ z p) }

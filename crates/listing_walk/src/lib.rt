@@ -6,7 +6,7 @@ ghost use Rattle.listing_walk.specs.Walk.{order_at, mark_at, Places, Placed, Pus
 
 use image::TypeId;
 use run_layout::Layout;
-use unifier_nodes::node::{Node, node_at};
+use unifier_nodes::node::{Node, Nodes};
 
 // Where the variables listed stand, one after another: in the second half of the names log.
 pub fn order_of(lay: Layout) -> u32
@@ -33,7 +33,8 @@ fn push_variables(w: &mut [u32], lo: u32, n: u32, end: u32) -> u32
     requires { PushAsked w.old lo n end }
     ensures { Pushes w.old w.new lo n end result }
 {
-    match node_at(w, lo, n) {
+    let nodes = Nodes { words: w, lo };
+    match nodes.node(n) {
         Node::Var(x) => {
             w[end as usize] = x.0;
             end + 1
@@ -68,6 +69,17 @@ struct Walk<'a> {
 }
 
 impl Walk<'_> {
+    // The words, to be read.
+    fn nodes(&self) -> Nodes<'_>
+        ensures words { result.words.now ≡ self.now.words.now }
+        ensures lo { result.lo ≡ self.now.lay.lo }
+    {
+        Nodes {
+            words: &self.words[..],
+            lo: self.lay.lo,
+        }
+    }
+
     // Whether a variable is listed. What stands at the mark of one that is not may be any word.
     fn is_listed(&self, x: TypeId) -> bool
         requires { SeekAsked self.now.words.now self.now.lay self.now.listed x.0 }
@@ -91,9 +103,8 @@ impl Walk<'_> {
         self.words[mark_of(self.lay, x) as usize] = self.listed;
         self.words[order_of(self.lay) as usize + self.listed as usize] = x.0;
         self.listed += 1;
-        let b = self.words[x.0 as usize];
-        if b != 0 {
-            self.end = push_variables(self.words, self.lay.lo, b - 1, self.end);
+        if let Some(bound) = self.nodes().binding(x) {
+            self.end = push_variables(self.words, self.lay.lo, bound, self.end);
         }
     }
 }

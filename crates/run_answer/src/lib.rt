@@ -1,10 +1,10 @@
-// The answer of a run, and words that are set to zero.
+// The answer of a run.
 #![tactic(auto)]
 
-ghost use Rattle.std.specs.Prelude.{◌≡◌, ◌≤◌, length};
+ghost use Rattle.std.specs.Prelude.{◌≡◌};
 ghost use Rattle.image.specs.Refusals.{number as number_of};
 ghost use Rattle.run_definition.specs.Infer.{refusal as refusal_of};
-ghost use Rattle.run_answer.specs.Lent.{answer_of, cleared};
+ghost use Rattle.run_answer.specs.Lent.{answer_of};
 
 use image::refusal::Refusal;
 
@@ -28,31 +28,16 @@ impl Answer {
     pub fn refused(reason: Refusal, steps: u32, table_words: u32) -> Answer
         ensures { answer_of result ≡ (refusal_of (number_of reason) steps table_words).answer }
     {
-        refusal(u32::from(reason), steps, table_words)
+        Answer {
+            number: u32::from(reason),
+            steps,
+            slots: 0,
+            bindings: 0,
+            table_words,
+            exact: 0,
+            star: 0,
+            hook: 0,
+            nothing: 0,
+        }
     }
-}
-
-// The same, by the number that a refusal has.
-pub fn refusal(number: u32, steps: u32, table_words: u32) -> Answer
-    ensures { answer_of result ≡ (refusal_of number steps table_words).answer }
-{
-    Answer {
-        number,
-        steps,
-        slots: 0,
-        bindings: 0,
-        table_words,
-        exact: 0,
-        star: 0,
-        hook: 0,
-        nothing: 0,
-    }
-}
-
-// The first n words are 0 then, which is `fill` said in the definition's word.
-pub fn clear(w: &mut [u32], n: usize)
-    requires { n ≤ length w.old }
-    ensures { w.new ≡ cleared n w.old }
-{
-    w[..n].fill(0);
 }

@@ -5,6 +5,7 @@ use mathlib.Core.Path.{◌≡◌, sym, ap, ap₂, ◌∙◌}
 use mathlib.Core.List.{List, []}
 use lib.ListN.{length}
 use lib.Seq.{sets-eq}
+use Rattle.std.specs.Prelude.{Ok, Err}
 use Rattle.image.specs.Ty.{Ty}
 use Rattle.image.specs.Program.{program}
 use Rattle.unifier_definition.specs.Log.{Binding}
@@ -17,18 +18,23 @@ use Rattle.run_tables.specs.Standing.{all_types, ResolvedRun}
 use Rattle.run_tables.specs.Writing.{WriteAsked, Writes}
 use Rattle.run_tables.proofs.Finishing.{types_many}
 use Rattle.run_solve.specs.Solve.{StandsSolved, Solves}
+use Rattle.run_answer.specs.declared.Answer.{Answer as Answered}
 use Rattle.run_solve.specs.declared.Solved.{Solved}
 use Rattle.run_solve.proofs.RunParts.{tables_fit, fit_tables, no_tables}
 
 -- a run that is refused has no tables
-pub stopped_tables : {img bytes w w' : List ℕ} {budget lent : ℕ} {r : Solved} → Solves img bytes budget w w' lent r → (r.answer.number ≡ 0 → ⊥) → (output_of budget lent (infer_types (program img bytes) budget)).tables ≡ []
-unfolding answer_of
-stopped_tables {img} {bytes} {budget = budget} {lent = lent} S h = no_tables budget lent (infer_types (program img bytes) budget) (λ e. h (ap (λ a. a.number) S.answers ∙ e))
+module _ {img bytes : List ℕ} {budget lent : ℕ} {r : Answered} (S : Solves img bytes budget lent (Err r)) where
+  pub stopped_number : (output_of budget lent (infer_types (program img bytes) budget)).answer.number ≡ 0 → ⊥
+  unfolding answer_of
+  stopped_number e = S.stands (ap (λ a. a.number) S.answers ∙ e)
 
-module _ {img bytes w w' : List ℕ} {budget lent : ℕ} {r : Solved} (S : Solves img bytes budget w w' lent r) (z : r.answer.number ≡ 0) where
+  pub stopped_tables : (output_of budget lent (infer_types (program img bytes) budget)).tables ≡ []
+  stopped_tables = no_tables budget lent (infer_types (program img bytes) budget) stopped_number
+
+module _ {img bytes : List ℕ} {budget lent : ℕ} {r : Solved} (S : Solves img bytes budget lent (Ok r)) where
   -- the final state
-  abbrev pub solved : StandsSolved img bytes budget w' r
-  solved = S.stands z
+  abbrev pub solved : StandsSolved img bytes budget r
+  solved = S.stands
 
   -- what the definition comes to, and what it puts out
   abbrev pub outcome : Outcome Final
@@ -50,7 +56,7 @@ module _ {img bytes w w' : List ℕ} {budget lent : ℕ} {r : Solved} (S : Solve
 
   pub solved_output : output.answer.number ≡ 0
   unfolding answer_of
-  solved_output = sym (ap (λ a. a.number) S.answers) ∙ z
+  solved_output = sym (ap (λ a. a.number) S.answers) ∙ solved.number
 
   -- there are as many types as slots
   pub many : length solved.final.types ≡ r.answer.slots

@@ -1,38 +1,51 @@
 -- The contract of `solve`: the definition's answer, and work words that stand for the final state. Assumes nothing.
-use Rattle.std.specs.Prelude.{ℕ, ◌+◌, ◌*◌, ◌≡◌, List, length}
+use Rattle.std.specs.Prelude.{ℕ, ◌+◌, ◌*◌, ◌<◌, ◌≡◌, List, length, Result, Ok, Err, MatchResult}
+use Rattle.image.specs.declared.Table.TheVariants.{Slots}
 use Rattle.image.specs.Ty.{Ty}
+use Rattle.image.specs.Image.{count, cell}
 use Rattle.image.specs.Program.{program}
 use Rattle.unifier_definition.specs.Outcome.{done}
+use Rattle.unifier_nodes.specs.Work.{at}
+use Rattle.unifier_nodes.specs.Walks.{type_node}
 use Rattle.run_definition.specs.Infer.{Final, infer_types, output_of}
 use Rattle.run_definition.specs.Fitting.{Passed}
 use Rattle.run_answer.specs.Lent.{answer_of}
-use Rattle.run_layout.specs.Layout.{layout_of}
+use Rattle.run_layout.specs.Layout.{layout_of, Prepared}
 use Rattle.run_tables.specs.Standing.{all_types, ResolvedRun}
 use Rattle.run_layout.specs.declared.Layout.{Layout}
-use Rattle.run_walk.specs.declared.Walk.{Walk}
+use Rattle.run_answer.specs.declared.Answer.{Answer as Answered}
 use Rattle.run_solve.specs.declared.Solved.{Solved}
-
--- the walk that a run starts with: all steps left, and no lookup counted
-abbrev pub first_walk : ℕ → Layout → Walk
-first_walk budget lay = record { left = budget; top = lay.top; refused = 0; next = lay.slots; log = lay.log; at = 0; counts = record { exact = 0; star = 0; hook = 0; nothing = 0 } }
 
 -- what a run asks: an image that passed the check, and as many work words as that takes
 pub record RunAsked (img bytes : List ℕ) (budget : ℕ) (w : List ℕ) : Type 0 where
   pub passed : Passed img bytes budget
   pub long : length w ≡ 8 * (length img + budget)
 
--- the words stand for the final state of a run that is done
-pub record StandsSolved (img bytes : List ℕ) (budget : ℕ) (w : List ℕ) (r : Solved) : Type 0 where
+-- the words before the first equation: no slot is bound, and all is laid out
+pub record Begun (img bytes : List ℕ) (budget : ℕ) (lay : Layout) (w : List ℕ) : Type 0 where
+  pub passed : Passed img bytes budget
+  pub prepared : Prepared img w budget lay lay.top
+  pub entries : (k : ℕ) → k < count Slots img → at w (lay.entries + k) ≡ type_node img lay.lo (cell Slots img k 0)
+  pub cleared : (k : ℕ) → k < lay.lo → at w k ≡ 0
+
+-- the answer, of a run that is done or of one that is refused
+abbrev pub answer_in : Result Solved Answered → Answered
+answer_in (Ok s) = s.answer
+answer_in (Err r) = r
+
+-- the run is done, and the words stand for its final state
+pub record StandsSolved (img bytes : List ℕ) (budget : ℕ) (s : Solved) : Type 0 where
+  pub number : s.answer.number ≡ 0
   pub final : Final
   pub left : ℕ
   pub is : infer_types (program img bytes) budget ≡ done final left
-  pub laid : r.lay ≡ layout_of img budget
+  pub laid : s.lay ≡ layout_of img budget
   pub types : List Ty
-  pub resolved : ResolvedRun w r.lay r.answer.slots final.log types
-  pub whole : final.types ≡ all_types r.lay r.answer.slots types
+  pub resolved : ResolvedRun s.words.now s.lay s.answer.slots final.log types
+  pub whole : final.types ≡ all_types s.lay s.answer.slots types
+  pub long : length s.words.now ≡ 8 * (length img + budget)
 
 -- the contract of `solve`
-pub record Solves (img bytes : List ℕ) (budget : ℕ) (w w' : List ℕ) (lent : ℕ) (r : Solved) : Type 0 where
-  pub answers : answer_of r.answer ≡ (output_of budget lent (infer_types (program img bytes) budget)).answer
-  pub stands : r.answer.number ≡ 0 → StandsSolved img bytes budget w' r
-  pub len : length w' ≡ length w
+pub record Solves (img bytes : List ℕ) (budget lent : ℕ) (o : Result Solved Answered) : Type 0 where
+  pub answers : answer_of (answer_in o) ≡ (output_of budget lent (infer_types (program img bytes) budget)).answer
+  pub stands : MatchResult o (StandsSolved img bytes budget) (λ r. r.number ≡ 0 → ⊥)

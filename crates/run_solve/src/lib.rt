@@ -2,70 +2,81 @@
 #![tactic(auto)]
 
 ghost use Rattle.std.specs.Prelude.{◌≡◌};
-ghost use Rattle.run_solve.specs.Solve.{first_walk, RunAsked, Solves};
+ghost use Rattle.run_solve.specs.Solve.{RunAsked, Begun, Solves};
 
 use image::{Table, count};
-use run_answer::{Answer, clear, refusal};
-use run_layout::Layout;
+use run_answer::Answer;
+use run_layout::{Layout, lay_out};
+use run_reading::env::Env;
 use run_walk::Walk;
 use unifier_counts::Counts;
 use unifier_nodes::state::Unifier;
 
-// The answer of the run with its tables, and where its final state stands.
-#[derive(Clone, Copy)]
-pub struct Solved {
+// The answer of a run that is done, with its tables; where its final state stands, and the work words, which hold it.
+#[derive(Drop)]
+pub struct Solved<'w> {
     pub answer: Answer,
     pub lay: Layout,
+    pub words: &'w mut [u32],
 }
 
-// The walk before the first equation.
-fn first_walk(budget: u32, lay: Layout) -> Walk
-    ensures { result ≡ first_walk budget lay }
+// No slot is bound, and all is laid out that the equations read.
+fn prepare<'a>(img: &'a [u32], bytes: &'a [u8], budget: u32, w: &mut [u32]) -> Env<'a>
+    requires { RunAsked img.now bytes.now budget w.old }
+    ensures image { result.image.now ≡ img.now }
+    ensures names { result.names.now ≡ bytes.now }
+    ensures begun { Begun result.image.now result.names.now budget result.lay w.new }
 {
-    Walk {
-        left: budget,
-        top: lay.top,
-        refused: 0,
+    let slots = count(img, Table::Slots) as usize + budget as usize;
+    w[..slots].fill(0);
+    let lay = lay_out(img, w, budget);
+    Env::new(img, bytes, lay)
+}
+
+// Equations and visits of an image that passed the check, in as many work words as it takes. The answer is that with so many table
+// words lent; none is written.
+pub fn solve<'a, 'w>(
+    img: &'a [u32],
+    bytes: &'a [u8],
+    budget: u32,
+    w: &'w mut [u32],
+    table_words: usize,
+) -> Result<Solved<'w>, Answer>
+    requires { RunAsked img.now bytes.now budget w.old }
+    ensures { Solves img.now bytes.now budget table_words result }
+{
+    let env = prepare(img, bytes, budget, w);
+    let lay = env.lay;
+    let mut walk = Walk {
+        unifier: Unifier {
+            words: w,
+            lo: lay.lo,
+            left: budget,
+            top: lay.top,
+            stack: lay.stack,
+        },
         next: lay.slots,
+        names: lay.log,
         log: lay.log,
-        at: 0,
         counts: Counts {
             exact: 0,
             star: 0,
             hook: 0,
             nothing: 0,
         },
-    }
-}
-
-// Equations and visits of an image that passed the check, in as many work words as it takes. The answer is that with so many table
-// words lent; none is written.
-pub fn solve(img: &[u32], bytes: &[u8], budget: u32, w: &mut [u32], table_words: usize) -> Solved
-    requires { RunAsked img.now bytes.now budget w.old }
-    ensures { Solves img.now bytes.now budget w.old w.new table_words result }
-{
-    clear(w, count(img, Table::Slots) as usize + budget as usize);
-    let lay = run_layout::lay_out(img, w, budget);
-    let g = run_generate::generate(img, bytes, w, lay, first_walk(budget, lay));
-    let left = g.left;
-    let number = g.refused;
-    if number != 0 {
-        let answer = refusal(number, budget - left, 0);
-        return Solved { answer, lay };
-    }
-    let mut unifier = Unifier {
-        words: &mut *w,
-        lo: lay.lo,
-        left,
-        top: g.top,
-        stack: lay.stack,
     };
-    let outcome = run_apply::apply(img, &mut unifier, lay);
-    let steps = budget - unifier.left;
-    if let Err(why) = outcome {
-        let answer = Answer::refused(why, steps, 0);
-        return Solved { answer, lay };
+    if let Err(why) = run_generate::generate(&env, &mut walk) {
+        return Err(Answer::refused(why, budget - walk.unifier.left, 0));
     }
-    let answer = run_tables::table_answer(w, lay, steps, g.next, g.counts, table_words);
-    Solved { answer, lay }
+    if let Err(why) = run_apply::apply(&env, &mut walk.unifier) {
+        return Err(Answer::refused(why, budget - walk.unifier.left, 0));
+    }
+    let Walk {
+        unifier: Unifier { words, left, .. },
+        next,
+        counts,
+        ..
+    } = walk;
+    let answer = run_tables::table_answer(words, lay, budget - left, next, counts, table_words)?;
+    Ok(Solved { answer, lay, words })
 }

@@ -10,7 +10,7 @@ use Rattle.image.specs.Ty.{Ty, var, written}
 use Rattle.image.specs.Program.{tabulate_from}
 use Rattle.unifier_definition.specs.Log.{Binding, Log, lookup}
 use Rattle.unifier_nodes.specs.Work.{at, Rep, Good}
-use Rattle.unifier_nodes.proofs.Getting.{is_free, is_bound}
+use Rattle.unifier_nodes.proofs.Getting.{is_free, bound_to}
 use Rattle.run_definition.specs.Tables.{made_types, binding_row, binding_rows, written_binding}
 use Rattle.run_tables.specs.Output.{Sink, Target, emit, has_room, Lawful}
 use Rattle.run_tables.specs.Writing.{Asks, Emits, AsksBindings}
@@ -91,11 +91,11 @@ module _ {S : Type 0} {k : Sink S} {w : List ℕ} {lo made : ℕ} {s₀ : Target
           room = subst (λ (ws : List ℕ). has_room k s (length ws)) (e P.σ P.good) P.room;
         }
 
-    module _ (l : i < made) (z : at w i ≡ 0 → ⊥) where
-      found : {σ : Log} → Good w lo (length w) σ → (t : Ty) × (words_left σ i made ≡ (i ∷ []) ++ (written t ++ words_left σ (i + 1) made)) × Rep w lo (length w) (at w i - 1) t
+    module _ (l : i < made) (m : ℕ) (z : at w i ≡ m + 1) where
+      found : {σ : Log} → Good w lo (length w) σ → (t : Ty) × (words_left σ i made ≡ (i ∷ []) ++ (written t ++ words_left σ (i + 1) made)) × Rep w lo (length w) m t
       found {σ} g =
           let b = P.bound in
-          let q = is_bound z (g.binds i (omega arith)) in
+          let q = bound_to z (g.binds i (omega arith)) in
           (q.0, words_bound σ l q.1, q.2)
 
       -- a bound slot: its number
@@ -103,12 +103,12 @@ module _ {S : Type 0} {k : Sink S} {w : List ℕ} {lo made : ℕ} {s₀ : Target
       room_bound = let q = found P.good in room_first k _ (i ∷ []) _ q.1 P.room
 
       -- its type
-      pub asks_bound : {s₁ : Target S} → Lawful k → s₁ ≡ emit k s (i ∷ []) → Asks k w lo (at w i - 1) s₁
+      pub asks_bound : {s₁ : Target S} → Lawful k → s₁ ≡ emit k s (i ∷ []) → Asks k w lo m s₁
       asks_bound law e =
           let q = found P.good in
           record { t = q.0; rep = q.2; room = room_first k _ (written q.0) _ refl (room_second law _ (i ∷ []) _ q.1 e P.room) }
 
-      pub passed_bound : {s₁ s' : Target S} → Lawful k → s₁ ≡ emit k s (i ∷ []) → Emits k w lo (at w i - 1) s₁ s' → Passed k w lo made s₀ s' (i + 1)
+      pub passed_bound : {s₁ s' : Target S} → Lawful k → s₁ ≡ emit k s (i ∷ []) → Emits k w lo m s₁ s' → Passed k w lo made s₀ s' (i + 1)
       passed_bound law e E =
           record {
             left = λ σ g.
@@ -142,11 +142,11 @@ module _ {w : List ℕ} {lo made i n : ℕ} (b : made ≤ lo) (C : Counted w lo 
     counted_free z =
         record { few = omega arith; left = λ σ g. omega (arith, C.left σ g, ap length (rows_free σ l (is_free z (g.binds i (omega arith))))) }
 
-    pub counted_bound : (at w i ≡ 0 → ⊥) → Counted w lo made (i + 1) (n + 1)
-    counted_bound z =
+    pub counted_bound : (m : ℕ) → at w i ≡ m + 1 → Counted w lo made (i + 1) (n + 1)
+    counted_bound m z =
         record {
           few = omega arith;
-          left = λ σ g. let q = is_bound z (g.binds i (omega arith)) in omega (arith, C.left σ g, ap length (rows_bound σ l q.1));
+          left = λ σ g. let q = bound_to z (g.binds i (omega arith)) in omega (arith, C.left σ g, ap length (rows_bound σ l q.1));
         }
 
   pub counted_end : made ≤ i → (σ : Log) → Good w lo (length w) σ → n ≡ length (binding_rows σ made)

@@ -5,6 +5,7 @@ use mathlib.Core.List.{List, ◌++◌, flat_map, append_assoc}
 use native.Mathlib.Omega.{arith}
 use Rattle.std.proofs.lemmas.Grind.{flat_map-append}
 use lib.ListN.{length, get_or, length-append}
+use Rattle.std.specs.Prelude.{Ok, Err}
 use borrow.Author.Tests.{le-leb, lt-leb}
 use Rattle.image.specs.Ty.{Ty, var, poly, written}
 use Rattle.unifier_definition.specs.Log.{Log}
@@ -106,16 +107,17 @@ module _ {w : List ℕ} {lay : Layout} {made : ℕ} {t t' : Writer} {size : Size
 
 module _ {w : List ℕ} {lay : Layout} {made : ℕ} {size : Size} (C : Sizes w lay made size) (steps : ℕ) (counts : Counts) (lent : ℕ) where
   -- the tables are longer than the lent words
-  pub too_long : lent < size.words → {r : Answered} → answer_of r ≡ (refusal 14 steps size.words).answer → AnswersTables w lay made steps counts lent r
-  unfolding with_tables refusal
+  pub too_long : lent < size.words → {r : Answered} → answer_of r ≡ (refusal 14 steps size.words).answer → AnswersTables w lay made steps counts lent (Err r)
+  unfolding with_tables refusal answer_of
   too_long l a =
       record {
         answers = λ σ types R. let e = C.words σ types R in rw (lt-leb (length (tables R)) lent (omega arith), with_tables) (a ∙ ap (λ n. (refusal 14 steps n).answer) e);
+        numbers = ap (λ r. r.number) a;
       }
 
   -- or they can be written
   pub long_enough : size.words ≤ lent
-      → AnswersTables w lay made steps counts lent (record { number = 0; steps = steps; slots = made; bindings = size.bindings; table_words = size.words; exact = counts.exact; star = counts.star; hook = counts.hook; nothing = counts.nothing })
+      → AnswersTables w lay made steps counts lent (Ok (record { number = 0; steps = steps; slots = made; bindings = size.bindings; table_words = size.words; exact = counts.exact; star = counts.star; hook = counts.hook; nothing = counts.nothing }))
   unfolding answer_of with_tables counts_of
   long_enough l =
       record {
@@ -124,4 +126,5 @@ module _ {w : List ℕ} {lay : Layout} {made : ℕ} {size : Size} (C : Sizes w l
             let b = C.bindings σ types R in
             let m = types_many R in
             rw (le-leb (length (tables R)) lent (omega arith), with_tables) (cc);
+        numbers = refl;
       }

@@ -1,5 +1,5 @@
 -- What the work words stand for once the equations are unified, and the contract of `table_answer`. Assumes nothing.
-use Rattle.std.specs.Prelude.{ℕ, ◌+◌, ◌≤◌, ◌<◌, ◌^◌, ◌≡◌, List, ◌++◌, length, get_or}
+use Rattle.std.specs.Prelude.{ℕ, ◌+◌, ◌≤◌, ◌<◌, ◌^◌, ◌≡◌, List, ◌++◌, length, get_or, Result, Ok, Err, MatchResult}
 use Rattle.image.specs.Ty.{Ty, poly}
 use Rattle.unifier_definition.specs.Log.{Log}
 use Rattle.unifier_nodes.specs.Work.{at, Rep, Good}
@@ -39,7 +39,13 @@ pub record AnswerAsked (w : List ℕ) (lay : Layout) (made : ℕ) : Type 0 where
   pub resolved : ResolvedRun w lay made σ types
   pub few : length (tables_of (all_types lay made types) (binding_rows σ made)) < 2 ^ 32
 
--- the contract of `table_answer`: the definition's answer, 14 included
-pub record AnswersTables (w : List ℕ) (lay : Layout) (made steps : ℕ) (counts : Counts) (lent : ℕ) (r : Answered) : Type 0 where
+-- the answer that is handed on, of a run that is done or of one that is refused
+abbrev pub either : Result Answered Answered → Answered
+either (Ok r) = r
+either (Err r) = r
+
+-- the contract of `table_answer`: the definition's answer; 0 where there is room for the tables, else 14
+pub record AnswersTables (w : List ℕ) (lay : Layout) (made steps : ℕ) (counts : Counts) (lent : ℕ) (o : Result Answered Answered) : Type 0 where
   pub answers : (σ : Log) (types : List Ty) → ResolvedRun w lay made σ types
-      → answer_of r ≡ (with_tables lent steps (counts_of counts) (all_types lay made types) (binding_rows σ made)).answer
+      → answer_of (either o) ≡ (with_tables lent steps (counts_of counts) (all_types lay made types) (binding_rows σ made)).answer
+  pub numbers : MatchResult o (λ r. r.number ≡ 0) (λ r. r.number ≡ 14)

@@ -12,12 +12,12 @@ ghost use Rattle.run_tables.specs.Writing.{Asks, Emits, AsksRow, EmitsRow, AsksB
 pub mod output;
 
 use image::refusal::Refusal;
-use image::type_kinds;
+use image::{TypeId, type_kinds};
 use output::{Counter, Output, Writer};
 use run_answer::Answer;
 use run_layout::Layout;
 use unifier_counts::Counts;
-use unifier_nodes::node::{Node, node_at};
+use unifier_nodes::node::{Node, Nodes};
 
 // Words of the tables, and rows of the binding table.
 #[derive(Clone, Copy)]
@@ -26,13 +26,13 @@ struct Size {
     bindings: u32,
 }
 
-// A type's words, put at a place. Gives the next place, as all that follow.
+// A type's words, put at a place. Gives the next place, as all that follow. The kind is a word that hosts read.
 #[cycle(types)]
-pub fn emit_type<O: Output>(w: &[u32], lo: u32, n: u32, out: &mut O, at: usize) -> usize
-    requires { Asks O.sink w.now lo n (target out.old at) }
-    ensures { Emits O.sink w.now lo n (target out.old at) (target out.new result) }
+pub fn emit_type<O: Output>(nodes: &Nodes, n: u32, out: &mut O, at: usize) -> usize
+    requires { Asks O.sink nodes.now.words.now nodes.now.lo n (target out.old at) }
+    ensures { Emits O.sink nodes.now.words.now nodes.now.lo n (target out.old at) (target out.new result) }
 {
-    match node_at(w, lo, n) {
+    match nodes.node(n) {
         Node::Var(x) => out.put_two(at, type_kinds::VAR, x.0),
         Node::Primitive => out.put(at, type_kinds::PRIMITIVE),
         Node::Poly => out.put(at, type_kinds::POLY),
@@ -40,11 +40,11 @@ pub fn emit_type<O: Output>(w: &[u32], lo: u32, n: u32, out: &mut O, at: usize) 
         Node::Object(s) => out.put_two(at, type_kinds::OBJECT, s),
         Node::Function(kind, s, ret) => {
             let next = out.put_two(at, kind, s);
-            emit_type(w, lo, ret, out, next)
+            emit_type(nodes, ret, out, next)
         }
         Node::Phi(from, count) => {
             let next = out.put_two(at, type_kinds::PHI, count);
-            emit_list(w, lo, n, from, count, out, next)
+            emit_list(nodes, n, from, count, out, next)
         }
     }
 }
@@ -52,21 +52,20 @@ pub fn emit_type<O: Output>(w: &[u32], lo: u32, n: u32, out: &mut O, at: usize) 
 // The same of a list of nodes below last. Where there are none, `from` may lie past the words, so it is no part of them that is gone over.
 #[cycle(types)]
 fn emit_list<O: Output>(
-    w: &[u32],
-    lo: u32,
+    nodes: &Nodes,
     last: u32,
     from: u32,
     count: u32,
     out: &mut O,
     at: usize,
 ) -> usize
-    requires { AsksRow O.sink w.now lo last from count (target out.old at) }
-    ensures { EmitsRow O.sink w.now lo last from count (target out.old at) (target out.new result) }
+    requires { AsksRow O.sink nodes.now.words.now nodes.now.lo last from count (target out.old at) }
+    ensures { EmitsRow O.sink nodes.now.words.now nodes.now.lo last from count (target out.old at) (target out.new result) }
 {
     let mut next = at;
     for k in 0..count {
-        let n = w[from as usize + k as usize];
-        next = emit_type(w, lo, n, out, next);
+        let n = nodes.words[from as usize + k as usize];
+        next = emit_type(nodes, n, out, next);
     }
     next
 }
@@ -84,17 +83,16 @@ fn emit_made<O: Output>(slots: u32, made: u32, out: &mut O, at: usize) -> usize
 }
 
 // The bindings of the slots below `made`, which are counted too.
-fn emit_bindings<O: Output>(w: &[u32], lo: u32, made: u32, out: &mut O, at: usize) -> Size
-    requires { AsksBindings O.sink w.now lo made (target out.old at) }
-    ensures { EmitsBindings O.sink w.now lo made (target out.old at) out.new result }
+fn emit_bindings<O: Output>(nodes: &Nodes, made: u32, out: &mut O, at: usize) -> Size
+    requires { AsksBindings O.sink nodes.now.words.now nodes.now.lo made (target out.old at) }
+    ensures { EmitsBindings O.sink nodes.now.words.now nodes.now.lo made (target out.old at) out.new result }
 {
     let mut words = at;
     let mut bindings: u32 = 0;
     for k in 0..made {
-        let b = w[k as usize];
-        if b != 0 {
+        if let Some(bound) = nodes.binding(TypeId(k)) {
             let next = out.put(words, k);
-            words = emit_type(w, lo, b - 1, out, next);
+            words = emit_type(nodes, bound, out, next);
             bindings += 1;
         }
     }
@@ -106,9 +104,13 @@ fn emit_tables<O: Output>(w: &[u32], lay: Layout, made: u32, out: &mut O) -> Siz
     requires { AsksTables O.sink w.now lay made (target out.old 0) }
     ensures { EmitsTables O.sink w.now lay made (target out.old 0) out.new result }
 {
-    let types = emit_list(w, lay.lo, w.len() as u32, lay.entries, lay.slots, out, 0);
+    let nodes = Nodes {
+        words: w,
+        lo: lay.lo,
+    };
+    let types = emit_list(&nodes, w.len() as u32, lay.entries, lay.slots, out, 0);
     let all = emit_made(lay.slots, made, out, types);
-    emit_bindings(w, lay.lo, made, out, all)
+    emit_bindings(&nodes, made, out, all)
 }
 
 fn total_size(w: &[u32], lay: Layout, made: u32) -> Size
@@ -126,7 +128,7 @@ pub fn write(w: &[u32], lay: Layout, made: u32, t: &mut [u32])
     emit_tables(w, lay, made, &mut out);
 }
 
-// The answer of a finished run: done, or a refusal with the length that its tables want.
+// The answer of a finished run, or the refusal of one whose tables are too long, with the length that they want.
 pub fn table_answer(
     w: &[u32],
     lay: Layout,
@@ -134,15 +136,15 @@ pub fn table_answer(
     made: u32,
     counts: Counts,
     lent: usize,
-) -> Answer
+) -> Result<Answer, Answer>
     requires { AnswerAsked w.now lay made }
     ensures { AnswersTables w.now lay made steps counts lent result }
 {
     let size = total_size(w, lay, made);
     if size.words > lent {
-        return Answer::refused(Refusal::TableWords, steps, size.words as u32);
+        return Err(Answer::refused(Refusal::TableWords, steps, size.words as u32));
     }
-    Answer {
+    Ok(Answer {
         number: 0,
         steps,
         slots: made,
@@ -152,5 +154,5 @@ pub fn table_answer(
         star: counts.star as u32,
         hook: counts.hook as u32,
         nothing: counts.nothing as u32,
-    }
+    })
 }

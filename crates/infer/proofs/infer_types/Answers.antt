@@ -31,4 +31,4 @@ run-answer-requires c = asks_run _ _ _ _ (sym c.in_default.ensures)
 pub returns : goal.returns
 unfolding refused
 returns c =
-    infers_passed (sym c.in_default.ensures) c.run-answer.ensures (c.fill.ensures.after (λ y e. e))
+    infers_passed _ (sym c.in_default.ensures) c.run-answer.ensures.len c.run-answer.ensures.runs (c.fill.ensures.after (λ y e. e))

@@ -8,7 +8,7 @@ use Rattle.listing.proofs.infer_listing.Goals as goal
 
 pub returns-in-Err : goal.returns-in-Err
 unfolding refused
-returns-in-Err c = lists_refused _ (sym c.in-Err.ensures) (not_zero c.in-Err.refusal) c.refused.ensures.0 c.refused.ensures.1
+returns-in-Err c = lists_refused _ (sym c.in-Err.ensures) (not_zero c.in-Err.refusal) c.refused.ensures.answer c.refused.ensures.words
 
 pub overflow_mul-need : goal.overflow_mul-need
 unfolding refused
@@ -32,4 +32,4 @@ run-answer-requires c =
 pub returns : goal.returns
 unfolding refused
 returns c =
-    lists_passed (sym c.in_default.ensures) c.run-answer.ensures (c.fill.ensures.after (λ y e. e))
+    lists_passed _ (sym c.in_default.ensures) c.run-answer.ensures.len c.run-answer.ensures.runs (c.fill.ensures.after (λ y e. e))

@@ -1,56 +1,32 @@
-use Rattle.std.proofs.Common.{rules, refl, sym}
-use native.Mathlib.Omega.{arith}
-use Rattle.run_solve.proofs.Lending.{sizes}
-use Rattle.run_solve.proofs.WholeRun.{begun, bindings_inside, lay_asked, ready, generate_stops, applying, apply_stops, answer_asked, run_finishes}
+use Rattle.std.proofs.Common.{refl, ap, ◌∙◌, Err}
+use Rattle.std.proofs.lemmas.Result.{err_from_is_err_and}
+use Rattle.run_solve.proofs.WholeRun.{as_asked, ready, generate_stops, applying, apply_stops, answer_asked, tables_stop, run_finishes}
 use Rattle.run_solve.proofs.solve.Goals as goal
 
-pub count-requires : goal.count-requires
-count-requires c = (sizes _ _ _ _ c.requires.passed.passed).long
-
-pub clear-requires : goal.clear-requires
-clear-requires c = omega (arith, c.count.ensures, bindings_inside c.requires)
-
-pub lay_out-lay-requires : goal.lay_out-lay-requires
-lay_out-lay-requires c =
-    lay_asked (begun c.requires c.count.ensures c.clear.ensures)
-
-pub generate-g-requires : goal.generate-g-requires
-generate-g-requires c =
-    let b = begun c.requires c.count.ensures c.clear.ensures in
-    rw c.first_walk.ensures (ready b c.lay_out-lay.ensures)
-
-pub returns-then-number-ne0 : goal.returns-then-number-ne0
-returns-then-number-ne0 c =
-    let b = begun c.requires c.count.ensures c.clear.ensures in
-    let f = rw c.first_walk.ensures at c.generate-g.ensures in
-    generate_stops b c.lay_out-lay.ensures f c.if-number-ne0.true c.refusal-answer.ensures
-
-pub shape_of-w-then-number-ne0 : goal.shape_of-w-then-number-ne0
-shape_of-w-then-number-ne0 c = (returns-then-number-ne0 c).len
-
-pub apply-outcome-requires : goal.apply-outcome-requires
-apply-outcome-requires c =
-    let b = begun c.requires c.count.ensures c.clear.ensures in
-    let f = rw c.first_walk.ensures at c.generate-g.ensures in
-    applying b c.lay_out-lay.ensures f c.if-number-ne0.false refl
+pub generate-requires-clause-ready : goal.generate-requires-clause-ready
+generate-requires-clause-ready c = ready _ c.prepare-env.ensures.begun _ refl
 
 pub returns-in-Err : goal.returns-in-Err
 returns-in-Err c =
-    let b = begun c.requires c.count.ensures c.clear.ensures in
-    let f = rw c.first_walk.ensures at c.generate-g.ensures in
-    let same = sym c.apply-outcome.ensures.keeps.same in
-    apply_stops b c.lay_out-lay.ensures f c.if-number-ne0.false _ refl c.apply-outcome.new.unifier (search rules) _ c.in-Err.ensures c.refused-answer.ensures
+    as_asked c.prepare-env.ensures.image c.prepare-env.ensures.names (generate_stops _ c.prepare-env.ensures.begun _ refl c.in-Err.ensures c.refused.ensures)
 
-pub table_answer-answer-requires : goal.table_answer-answer-requires
-table_answer-answer-requires c =
-    let b = begun c.requires c.count.ensures c.clear.ensures in
-    let f = rw c.first_walk.ensures at c.generate-g.ensures in
-    let same = sym c.apply-outcome.ensures.keeps.same in
-    answer_asked b c.lay_out-lay.ensures f c.if-number-ne0.false _ refl c.apply-outcome.new.unifier (search rules) c.in_default.ensures
+pub apply-requires : goal.apply-requires
+apply-requires c =
+    applying _ c.prepare-env.ensures.begun _ refl c.in_default.ensures
+
+pub returns-in-Err-apply : goal.returns-in-Err-apply
+returns-in-Err-apply c =
+    as_asked c.prepare-env.ensures.image c.prepare-env.ensures.names (apply_stops _ c.prepare-env.ensures.begun _ refl c.in_default.ensures _ c.in-Err-apply.ensures c.refused-in-Err-apply.ensures)
+
+pub table_answer-requires : goal.table_answer-requires
+table_answer-requires c =
+    answer_asked _ c.prepare-env.ensures.begun _ refl c.in_default.ensures _ c.in_default-apply.ensures
+
+pub returns-in_err-answer : goal.returns-in_err-answer
+returns-in_err-answer c =
+    let q = err_from_is_err_and c.from_residual.result c.from_residual.ensures.1 in
+    rw (q.1 ∙ ap Err q.2) (as_asked c.prepare-env.ensures.image c.prepare-env.ensures.names (tables_stop _ c.prepare-env.ensures.begun _ refl c.in_default.ensures _ c.in_default-apply.ensures c.in_err-answer.ensures))
 
 pub returns : goal.returns
 returns c =
-    let b = begun c.requires c.count.ensures c.clear.ensures in
-    let f = rw c.first_walk.ensures at c.generate-g.ensures in
-    let same = sym c.apply-outcome.ensures.keeps.same in
-    run_finishes b c.lay_out-lay.ensures f c.if-number-ne0.false _ refl c.apply-outcome.new.unifier (search rules) c.in_default.ensures c.table_answer-answer.ensures
+    as_asked c.prepare-env.ensures.image c.prepare-env.ensures.names (run_finishes _ c.prepare-env.ensures.begun _ refl c.in_default.ensures _ c.in_default-apply.ensures c.in_ok-answer.ensures)

@@ -14,14 +14,14 @@ bounds-self-order_of c = order_written c.requires _ c.order_of.ensures
 pub push_variables-self-requires : goal.push_variables-self-requires
 push_variables-self-requires c =
     rw (c.order_of.ensures, c.mark_of.ensures)
-    (push_asked c.requires (rw (c.order_of.ensures, c.mark_of.ensures) at c.if-b-ne0.true))
+    (push_asked c.requires _ (rw (c.nodes.ensures.words, c.order_of.ensures, c.mark_of.ensures) at c.in-Some.ensures))
 
-pub returns-then-b-ne0-clause-lists : goal.returns-then-b-ne0-clause-lists
-returns-then-b-ne0-clause-lists c =
-    lists_bound c.requires (rw (c.order_of.ensures, c.mark_of.ensures) at c.if-b-ne0.true)
+pub returns-in-Some-clause-lists : goal.returns-in-Some-clause-lists
+returns-in-Some-clause-lists c =
+    lists_bound c.requires (rw (c.nodes.ensures.words, c.order_of.ensures, c.mark_of.ensures) at c.in-Some.ensures)
     (rw (c.order_of.ensures, c.mark_of.ensures) at c.push_variables-self.ensures)
 
-pub returns-else-b-ne0-clause-lists : goal.returns-else-b-ne0-clause-lists
-returns-else-b-ne0-clause-lists c =
+pub returns-in_default-clause-lists : goal.returns-in_default-clause-lists
+returns-in_default-clause-lists c =
     rw (c.order_of.ensures, c.mark_of.ensures)
-    (lists_unbound c.requires (rw (c.order_of.ensures, c.mark_of.ensures) at c.if-b-ne0.false))
+    (lists_unbound c.requires (rw (c.in_default.is, c.nodes.ensures.words, c.order_of.ensures, c.mark_of.ensures) at c.binding.ensures))
