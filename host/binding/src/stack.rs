@@ -12,7 +12,8 @@ const OF_THREAD: usize = 1 << 18;
 
 /// The check doesn't recurse: with `shapes_numbered`, `check` and all between 819,552, rounded up.
 const CHECK: usize = 13 << 16;
-/// A level of `generate_function`, which takes 432, and 48 to spare; one of `apply_function` takes 112.
+/// A level of `generate_function`, which takes 112, or of `apply_function`, which takes 128. The first took 432 while
+/// the walk went by value.
 const FUNCTION: usize = 480;
 /// A level of the unifier: `try_resolve_type` 96, `get` 96, counted as 224, for two steps; `unify` and
 /// `bind_variable_to` over a variable 80, for three. Every level is a step, and its node was entered by another step
@@ -20,7 +21,7 @@ const FUNCTION: usize = 480;
 const STEP: usize = 224 / 2;
 /// The levels of that one type, at most: its 4,096 words, two a level, and a variable.
 const TYPE: usize = 2_049 * STEP;
-/// Each function beside these levels once: in `infer_batch` 2,480, in `infer_types` 2,384, in `infer_listing` 2,336,
+/// Each function beside these levels once: in `infer_batch` 1,680, in `infer_types` 1,584, in `infer_listing` 1,552,
 /// rounded up: with the type 57 pages.
 const RUN: usize = (57 << 12) - TYPE;
 
