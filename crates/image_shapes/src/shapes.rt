@@ -8,6 +8,7 @@ use image::Table;
 use image_numbering::numbering::Links;
 use image_numbering::reach::reach;
 use image_views::NamedImage;
+use names::same_bytes;
 use std::ops::Range;
 
 // The property rows of a shape that fits: a present word of 0 or 1, and properties in their table, none under an absent shape.
@@ -35,7 +36,7 @@ fn is_among(image: &NamedImage, name: &[u8], first: u32, end: u32) -> bool
     requires { (first ≤ end) × (end ≤ count_of Table.Properties image.now.words) }
     ensures { result ≡ among image.now.words image.now.names name.now first (end - first) }
 {
-    (first..end).any(|k| name == image.property_name(k))
+    (first..end).any(|k| same_bytes(name, image.property_name(k)))
 }
 
 // Whether the rows have different names, compared two by two.

@@ -22,6 +22,7 @@ ghost use Rattle.run_equations.specs.Parts.{IsFunction, Calls, item_in, is_ref, 
 use image::refusal::Refusal;
 use image::tags::Tag;
 use image::{IdentifierId, TypeId, markers, shapes, type_kinds};
+use names::same_bytes;
 use run_layout::OWN_METHOD;
 use run_reading::env::Env;
 use run_reading::instruction::Instruction;
@@ -173,7 +174,7 @@ fn is_ref_attribute(on: &Instruction, k: u32) -> bool
     ensures { result ≡ is_ref (program_of on.now.env.now) (item_in on.now k) }
 {
     let item = on.item(k);
-    item.tag == Some(Tag::Attribute) && on.env.name(item.key) == b"ref".as_slice()
+    item.tag == Some(Tag::Attribute) && same_bytes(on.env.name(item.key), b"ref")
 }
 
 fn ref_attributes(on: &Instruction, walk: &mut Walk) -> Result<(), Refusal>

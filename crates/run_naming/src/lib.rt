@@ -14,7 +14,7 @@ ghost use Rattle.run_naming.specs.Naming.{FindsName, TellsShape, TellsRef, Does,
 use image::refusal::Refusal;
 use image::tags::Tag;
 use image::{IdentifierId, NONE, TypeId, shapes, type_kinds};
-use names::{is_ref_like_name, starts_with_set};
+use names::{is_ref_like_name, same_bytes, starts_with_set};
 use run_equations::call;
 use run_reading::env::Env;
 use run_reading::instruction::Instruction;
@@ -70,7 +70,7 @@ fn is_ref_access(env: &Env, walk: &Walk, id: IdentifierId, key: Key) -> bool
         return false;
     };
     let name = env.name(n);
-    name == b"current".as_slice() && is_ref_like_name(logged_name(env, walk, id), name)
+    same_bytes(name, b"current") && is_ref_like_name(logged_name(env, walk, id), name)
 }
 
 // A slot is a property of an identifier.

@@ -7,6 +7,7 @@ ghost use Rattle.unifier_properties.specs.Lookup.{entry_number, properties_in};
 
 use image::Table;
 use image_views::NamedImage;
+use names::same_bytes;
 use std::ops::Range;
 
 // Rows of the property table.
@@ -23,7 +24,7 @@ impl Properties<'_> {
         ensures { result ≡ entry_number (entry (properties_in self.now.image.now self.now.rows) name.now) }
     {
         for p in self.rows.start..self.rows.end {
-            if self.image.property_name(p) == name {
+            if same_bytes(self.image.property_name(p), name) {
                 return Some(self.image.image().cell(Table::Properties, p, 1));
             }
         }

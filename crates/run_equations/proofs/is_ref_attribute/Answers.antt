@@ -6,7 +6,7 @@ name-requires-clause-row c = attribute_name c.args.on.now c.requires.item c.item
 
 pub returns-then-eq : goal.returns-then-eq
 returns-then-eq c =
-    attribute_ref c.args.on.now c.requires.item c.item-item.ensures c.eq.ensures c.if-eq.true c.name.ensures (rw c.as_slice.ensures at c.eq-then-eq.ensures)
+    attribute_ref c.args.on.now c.requires.item c.item-item.ensures c.eq.ensures c.if-eq.true c.name.ensures c.same_bytes.ensures
 
 pub returns-else-eq : goal.returns-else-eq
 returns-else-eq c = attribute_other c.args.on.now c.requires.item c.item-item.ensures c.eq.ensures c.if-eq.false

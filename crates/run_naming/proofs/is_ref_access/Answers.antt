@@ -11,8 +11,8 @@ name-name-requires-clause-names c = names_in c.requires.ready
 pub returns-in_default : goal.returns-in_default
 returns-in_default c = ref_other c.treats_refs.ensures c.if-not-treats_refs.false c.in_default.not-String
 
-pub returns-then-eq : goal.returns-then-eq
-returns-then-eq c = ref_named c.treats_refs.ensures c.if-not-treats_refs.false c.in-String.is c.name-name.ensures c.logged_name.ensures c.is_ref_like_name.ensures
+pub returns-then-same_bytes : goal.returns-then-same_bytes
+returns-then-same_bytes c = ref_named c.treats_refs.ensures c.if-not-treats_refs.false c.in-String.is c.name-name.ensures c.logged_name.ensures c.is_ref_like_name.ensures
 
-pub returns-else-eq : goal.returns-else-eq
-returns-else-eq c = ref_unlike c.treats_refs.ensures c.if-not-treats_refs.false c.in-String.is c.name-name.ensures (rw c.as_slice.ensures at c.eq.ensures) c.if-eq.false
+pub returns-else-same_bytes : goal.returns-else-same_bytes
+returns-else-same_bytes c = ref_unlike c.treats_refs.ensures c.if-not-treats_refs.false c.in-String.is c.name-name.ensures c.same_bytes.ensures c.if-same_bytes.false

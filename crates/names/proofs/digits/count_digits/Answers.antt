@@ -6,7 +6,7 @@ pub loop-rest-init : goal.loop-rest-init
 loop-rest-init c = (omega arith, omega arith)
 
 pub overflow_add-count : goal.overflow_add-count
-overflow_add-count c = omega (arith, digits_few c.args.x c.ranges.x.fits)
+overflow_add-count c = omega (arith, digits_few c.args.x)
 
 pub loop-rest-preserved : goal.loop-rest-preserved
 loop-rest-preserved c = (omega arith, omega (arith, digits_longer c.loop-rest.rest c.loop-rest.invariant.0 c.loop-rest-test.true))
