@@ -11,7 +11,7 @@ ghost use Rattle.batch.specs.Steps.{screen_of, screens, lent_work, check_passed,
 
 use image::refusal::{Refusal, number_of};
 use image::{NONE, WORK_WORDS_EACH};
-use run_answer::Answer;
+use run_answer::{Answer, clear};
 
 // The words of a list's row and of an answer's, and the most images of a list.
 const LIST_ROW: usize = 5;
@@ -219,7 +219,7 @@ fn run_list(
         return Err(Refusal::Ranges);
     }
     if run_screens(rows, images, names, work, tables, answers) {
-        work.fill(0);
+        clear(work, work.len());
     }
     Ok(())
 }

@@ -4,6 +4,7 @@ use mathlib.Core.Path.{refl, sym, ap, ◌∙◌}
 use mathlib.Core.List.{List}
 use lib.ListN.{length}
 use Rattle.std.specs.Prelude.{Ok, Err}
+use Rattle.std.specs.Borrow.{MutBor}
 use Rattle.run_answer.specs.Lent.{put}
 use Rattle.run_answer.specs.declared.Answer.{Answer as Answered}
 use Rattle.run_answer.proofs.LentLaws.{put_none}
@@ -18,11 +19,11 @@ module _ {img bytes t : List ℕ} {budget : ℕ} where
   pub runs_stopped : {r : Answered} → Solves img bytes budget (length t) (Err r) → Runs img bytes budget t t r
   runs_stopped S = record { answers = S.answers; writes = sym (ap (put t 0) (stopped_tables S) ∙ put_none t 0) }
 
-  module _ {s : Solved} (S : Solves img bytes budget (length t) (Ok s)) where
+  module _ {s : Solved} {words : MutBor (List ℕ)} (S : Solves img bytes budget (length t) (Ok (s, words))) where
     -- what `write` asks
-    pub asks_write : WriteAsked s.words.now s.lay s.answer.slots t
+    pub asks_write : WriteAsked words.now s.lay s.answer.slots t
     asks_write = write_asked S refl S.stands.resolved
 
     -- and a run that is done
-    pub runs_done : {t' : List ℕ} → Writes s.words.now s.lay s.answer.slots t t' → Runs img bytes budget t t' s.answer
+    pub runs_done : {t' : List ℕ} → Writes words.now s.lay s.answer.slots t t' → Runs img bytes budget t t' s.answer
     runs_done W = record { answers = S.answers; writes = tables_written S refl S.stands.resolved W }

@@ -8,6 +8,7 @@ ghost use Rattle.run_solve.specs.Solve.{RunAsked};
 
 use image::WORK_WORDS_EACH;
 pub use run_answer::Answer;
+use run_answer::clear;
 use run_solve::Solved;
 
 // Everything after the check, in as many work words as it takes.
@@ -17,7 +18,7 @@ fn run(img: &[u32], bytes: &[u8], budget: u32, w: &mut [u32], tables: &mut [u32]
     ensures len { length w.new ≡ length w.old }
 {
     match run_solve::solve(img, bytes, budget, w, tables.len()) {
-        Ok(Solved { answer, lay, words }) => {
+        Ok((Solved { answer, lay }, words)) => {
             run_tables::write(words, lay, answer.slots, tables);
             answer
         }
@@ -40,6 +41,6 @@ pub fn infer_types(
     }
     let need = WORK_WORDS_EACH * (image.len() + budget as usize);
     let answer = run(image, names, budget, &mut work[..need], tables);
-    work.fill(0);
+    clear(work, work.len());
     answer
 }

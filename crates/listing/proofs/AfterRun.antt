@@ -7,6 +7,7 @@ use mathlib.Core.List.{List, flat_map}
 use lib.ListN.{length, get_or, take, drop}
 use Rattle.std.proofs.lemmas.List.{length-take, length-drop, get_or-take, get_or-drop, get_or_default, same_lists}
 use Rattle.std.specs.Prelude.{Ok}
+use Rattle.std.specs.Borrow.{MutBor}
 use Rattle.image.specs.Ty.{Ty}
 use Rattle.image.specs.declared.Table.TheVariants.{Slots, Types, Lists}
 use Rattle.image.specs.Program.{program}
@@ -67,12 +68,12 @@ part_is w xs from n m h each =
     get_or-take (from + n - from) (drop from w) i d j ∙ get_or-drop from w i d ∙ get_or_default w (from + i) d 0 (omega arith) ∙ each i k
     ∙ get_or_default xs i 0 d (omega arith))
 
-module _ {img bytes : List ℕ} {budget lent : ℕ} {s : Solved} (A : Passed img bytes budget) (S : Solves img bytes budget lent (Ok s)) where
+module _ {img bytes : List ℕ} {budget lent : ℕ} {s : Solved} {work : MutBor (List ℕ)} (A : Passed img bytes budget) (S : Solves img bytes budget lent (Ok (s, work))) where
   c : CheckedImage img bytes budget
   c = checked A
 
   abbrev w₁ : List ℕ
-  w₁ = s.words.now
+  w₁ = work.now
 
   abbrev lay : Layout
   lay = s.lay

@@ -7,6 +7,7 @@ use lib.ListN.{length, take, drop}
 use lib.Seq.{sets-eq}
 use borrow.Author.Tests.{lt-ltb, le-ltb, le-leb, lt-leb}
 use Rattle.std.specs.Prelude.{Ok, Err}
+use Rattle.std.specs.Borrow.{MutBor}
 use Rattle.image.specs.Program.{program}
 use Rattle.unifier_definition.specs.Log.{Binding}
 use Rattle.run_definition.specs.Infer.{Output, Answer, infer_types, refusal, output_of}
@@ -67,7 +68,7 @@ module _ {img bytes : List ℕ} {budget : ℕ} (slot : ℕ) (t l : List ℕ) whe
       subst (λ (m : WithMore). Gives m t t l l (record { answer = a; listing_words = 0 }))
       (sym (after_stopped o (listing_with (bindings_of out) slot (length l) o) (stopped_number S))) (gives_stopped o S.answers refl (stopped_tables S))
 
-  module _ {s : Solved} (A : Passed img bytes budget) (S : Solves img bytes budget (length t) (Ok s)) where
+  module _ {s : Solved} {work : MutBor (List ℕ)} (A : Passed img bytes budget) (S : Solves img bytes budget (length t) (Ok (s, work))) where
     abbrev o : Output
     o = output_of budget (length t) (infer_types (program img bytes) budget)
 
@@ -97,7 +98,7 @@ module _ {img bytes : List ℕ} {budget : ℕ} (slot : ℕ) (t l : List ℕ) whe
         runs_as (refused_more 17 o.answer.steps 0) (with_17 bs slot (length l) o (omega (arith, slots_are)))
         (gives_refused 17 o.answer.steps 0 (a ∙ ap (λ (n : ℕ). (refusal 17 n 0).answer) (sym steps_are)) e)
 
-    module _ (h : slot < s.answer.slots) {w₂ : List ℕ} {n order : ℕ} (L : ListsAll s.words.now w₂ s.lay slot n) (e : order ≡ order_at s.lay) where
+    module _ (h : slot < s.answer.slots) {w₂ : List ℕ} {n order : ℕ} (L : ListsAll work.now w₂ s.lay slot n) (e : order ≡ order_at s.lay) where
       inside : slot < o.answer.slots
       inside = omega (arith, slots_are)
 

@@ -13,7 +13,7 @@ ghost use Rattle.image.specs.Refusals.{number};
 use image::refusal::Refusal;
 use image::{NONE, TypeId, WORK_WORDS_EACH};
 use listing_walk::{list_variables, order_of};
-use run_answer::Answer;
+use run_answer::{Answer, clear};
 use run_solve::Solved;
 use run_tables::emit_type;
 use run_tables::output::{Counter, Output, Writer};
@@ -87,7 +87,7 @@ fn run(
     ensures len { length w.new ≡ length w.old }
 {
     let solved = run_solve::solve(img, bytes, budget, w, tables.len());
-    let Solved { answer, lay, words } = match solved {
+    let (Solved { answer, lay }, words) = match solved {
         Ok(solved) => solved,
         Err(answer) => {
             return ListingAnswer {
@@ -142,6 +142,6 @@ pub fn infer_listing(
         slot,
         listing,
     );
-    work.fill(0);
+    clear(work, work.len());
     answer
 }

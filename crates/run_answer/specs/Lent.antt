@@ -19,6 +19,10 @@ answer_of a =
       counts = record { exact = a.exact; star = a.star; hook = a.hook; nothing = a.nothing };
     }
 
+-- the first n words 0
+unfoldable pub cleared : ℕ → List ℕ → List ℕ
+cleared n w = replicate n 0 ++ drop n w
+
 -- the work words at exit: "work words end all zero once the image check has passed and are untouched before that"
 unfoldable pub work_after : ℕ → List ℕ → List ℕ
 work_after zero w = replicate (length w) 0

@@ -1,10 +1,10 @@
-// The answer of a run.
+// The answer of a run, and words that are set to zero.
 #![tactic(auto)]
 
-ghost use Rattle.std.specs.Prelude.{◌≡◌};
+ghost use Rattle.std.specs.Prelude.{◌≡◌, ◌≤◌, length};
 ghost use Rattle.image.specs.Refusals.{number as number_of};
 ghost use Rattle.run_definition.specs.Infer.{refusal as refusal_of};
-ghost use Rattle.run_answer.specs.Lent.{answer_of};
+ghost use Rattle.run_answer.specs.Lent.{answer_of, cleared};
 
 use image::refusal::Refusal;
 
@@ -23,21 +23,36 @@ pub struct Answer {
     pub nothing: u32,
 }
 
+// That of a run, or of a screen of a list, that ends with this number.
+pub fn refusal(number: u32, steps: u32, table_words: u32) -> Answer
+    ensures { answer_of result ≡ (refusal_of number steps table_words).answer }
+{
+    Answer {
+        number,
+        steps,
+        slots: 0,
+        bindings: 0,
+        table_words,
+        exact: 0,
+        star: 0,
+        hook: 0,
+        nothing: 0,
+    }
+}
+
 impl Answer {
     // That of a run that is refused.
     pub fn refused(reason: Refusal, steps: u32, table_words: u32) -> Answer
         ensures { answer_of result ≡ (refusal_of (number_of reason) steps table_words).answer }
     {
-        Answer {
-            number: u32::from(reason),
-            steps,
-            slots: 0,
-            bindings: 0,
-            table_words,
-            exact: 0,
-            star: 0,
-            hook: 0,
-            nothing: 0,
-        }
+        refusal(u32::from(reason), steps, table_words)
     }
+}
+
+// The first n words are 0 then.
+pub fn clear(w: &mut [u32], n: usize)
+    requires { n ≤ length w.old }
+    ensures { w.new ≡ cleared n w.old }
+{
+    w[..n].fill(0);
 }

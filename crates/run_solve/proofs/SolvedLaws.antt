@@ -6,6 +6,7 @@ use mathlib.Core.List.{List, []}
 use lib.ListN.{length}
 use lib.Seq.{sets-eq}
 use Rattle.std.specs.Prelude.{Ok, Err}
+use Rattle.std.specs.Borrow.{MutBor}
 use Rattle.image.specs.Ty.{Ty}
 use Rattle.image.specs.Program.{program}
 use Rattle.unifier_definition.specs.Log.{Binding}
@@ -31,9 +32,9 @@ module _ {img bytes : List ℕ} {budget lent : ℕ} {r : Answered} (S : Solves i
   pub stopped_tables : (output_of budget lent (infer_types (program img bytes) budget)).tables ≡ []
   stopped_tables = no_tables budget lent (infer_types (program img bytes) budget) stopped_number
 
-module _ {img bytes : List ℕ} {budget lent : ℕ} {r : Solved} (S : Solves img bytes budget lent (Ok r)) where
+module _ {img bytes : List ℕ} {budget lent : ℕ} {r : Solved} {words : MutBor (List ℕ)} (S : Solves img bytes budget lent (Ok (r, words))) where
   -- the final state
-  abbrev pub solved : StandsSolved img bytes budget r
+  abbrev pub solved : StandsSolved img bytes budget r words.now
   solved = S.stands
 
   -- what the definition comes to, and what it puts out

@@ -90,7 +90,7 @@ module _ {img bytes w front : List ℕ} {budget slots : ℕ} (asked : RunAsked i
       })
 
 -- the promise of `solve`, of what an environment has
-pub as_asked : {img img' bytes bytes' : List ℕ} {budget lent : ℕ} {o : Result Solved Answered} → img' ≡ img → bytes' ≡ bytes → Solves img' bytes' budget lent o → Solves img bytes budget lent o
+pub as_asked : {img img' bytes bytes' : List ℕ} {budget lent : ℕ} {o : Result (Solved × MutBor (List ℕ)) Answered} → img' ≡ img → bytes' ≡ bytes → Solves img' bytes' budget lent o → Solves img bytes budget lent o
 as_asked i n s = rw (← i, ← n) s
 
 module _ (env : Env) {budget : ℕ} {w : List ℕ} (b : Begun env.image.now env.names.now budget env.lay w) where
@@ -343,7 +343,7 @@ module _ (env : Env) {budget : ℕ} {w : List ℕ} (b : Begun env.image.now env.
                 ap (λ o. o.slots) a ∙ fit_slots lent (budget - u.left) (counts_of g.counts) ts rows fits ∙ types_many resolved_run
 
             -- the words that stand for the final state
-            stands : StandsSolved img bytes budget (record { answer = r; lay = lay; words = u.words })
+            stands : StandsSolved img bytes budget (record { answer = r; lay = lay }) u.words.now
             stands =
                 let s = sym slots_are in
                 record {
@@ -359,5 +359,5 @@ module _ (env : Env) {budget : ℕ} {w : List ℕ} (b : Begun env.image.now env.
                 }
 
             -- the answer where all is done
-            pub run_finishes : Solves img bytes budget lent (Ok (record { answer = r; lay = lay; words = u.words }))
+            pub run_finishes : Solves img bytes budget lent (Ok (record { answer = r; lay = lay }, u.words))
             run_finishes = record { answers = told (Ok r) h; stands = stands }

@@ -1,5 +1,6 @@
 -- The contract of `solve`: the definition's answer, and work words that stand for the final state. Assumes nothing.
 use Rattle.std.specs.Prelude.{ℕ, ◌+◌, ◌*◌, ◌<◌, ◌≡◌, List, length, Result, Ok, Err, MatchResult}
+use Rattle.std.specs.Borrow.{MutBor}
 use Rattle.image.specs.declared.Table.TheVariants.{Slots}
 use Rattle.image.specs.Ty.{Ty}
 use Rattle.image.specs.Image.{count, cell}
@@ -29,23 +30,23 @@ pub record Begun (img bytes : List ℕ) (budget : ℕ) (lay : Layout) (w : List 
   pub cleared : (k : ℕ) → k < lay.lo → at w k ≡ 0
 
 -- the answer, of a run that is done or of one that is refused
-abbrev pub answer_in : Result Solved Answered → Answered
-answer_in (Ok s) = s.answer
+abbrev pub answer_in : Result (Solved × MutBor (List ℕ)) Answered → Answered
+answer_in (Ok r) = r.0.answer
 answer_in (Err r) = r
 
 -- the run is done, and the words stand for its final state
-pub record StandsSolved (img bytes : List ℕ) (budget : ℕ) (s : Solved) : Type 0 where
+pub record StandsSolved (img bytes : List ℕ) (budget : ℕ) (s : Solved) (w : List ℕ) : Type 0 where
   pub number : s.answer.number ≡ 0
   pub final : Final
   pub left : ℕ
   pub is : infer_types (program img bytes) budget ≡ done final left
   pub laid : s.lay ≡ layout_of img budget
   pub types : List Ty
-  pub resolved : ResolvedRun s.words.now s.lay s.answer.slots final.log types
+  pub resolved : ResolvedRun w s.lay s.answer.slots final.log types
   pub whole : final.types ≡ all_types s.lay s.answer.slots types
-  pub long : length s.words.now ≡ 8 * (length img + budget)
+  pub long : length w ≡ 8 * (length img + budget)
 
 -- the contract of `solve`
-pub record Solves (img bytes : List ℕ) (budget lent : ℕ) (o : Result Solved Answered) : Type 0 where
+pub record Solves (img bytes : List ℕ) (budget lent : ℕ) (o : Result (Solved × MutBor (List ℕ)) Answered) : Type 0 where
   pub answers : answer_of (answer_in o) ≡ (output_of budget lent (infer_types (program img bytes) budget)).answer
-  pub stands : MatchResult o (StandsSolved img bytes budget) (λ r. r.number ≡ 0 → ⊥)
+  pub stands : MatchResult o (λ r. StandsSolved img bytes budget r.0 r.1.now) (λ r. r.number ≡ 0 → ⊥)

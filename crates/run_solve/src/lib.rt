@@ -12,12 +12,11 @@ use run_walk::Walk;
 use unifier_counts::Counts;
 use unifier_nodes::state::Unifier;
 
-// The answer of a run that is done, with its tables; where its final state stands, and the work words, which hold it.
-#[derive(Drop)]
-pub struct Solved<'w> {
+// The answer of a run that is done, with its tables, and where its final state stands.
+#[derive(Clone, Copy)]
+pub struct Solved {
     pub answer: Answer,
     pub lay: Layout,
-    pub words: &'w mut [u32],
 }
 
 // No slot is bound, and all is laid out that the equations read.
@@ -34,14 +33,14 @@ fn prepare<'a>(img: &'a [u32], bytes: &'a [u8], budget: u32, w: &mut [u32]) -> E
 }
 
 // Equations and visits of an image that passed the check, in as many work words as it takes. The answer is that with so many table
-// words lent; none is written.
+// words lent; none is written. The work words are given back, as they hold the final state.
 pub fn solve<'a, 'w>(
     img: &'a [u32],
     bytes: &'a [u8],
     budget: u32,
     w: &'w mut [u32],
     table_words: usize,
-) -> Result<Solved<'w>, Answer>
+) -> Result<(Solved, &'w mut [u32]), Answer>
     requires { RunAsked img.now bytes.now budget w.old }
     ensures { Solves img.now bytes.now budget table_words result }
 {
@@ -78,5 +77,5 @@ pub fn solve<'a, 'w>(
         ..
     } = walk;
     let answer = run_tables::table_answer(words, lay, budget - left, next, counts, table_words)?;
-    Ok(Solved { answer, lay, words })
+    Ok((Solved { answer, lay }, words))
 }

@@ -1,6 +1,7 @@
 use mathlib.Core.Path.{sym, ◌∙◌}
 use Rattle.std.proofs.lemmas.Result.{err_from_is_err_and}
 use Rattle.image.specs.Refusals.{refused, number}
+use Rattle.run_answer.proofs.LentLaws.{cleared_all}
 use Rattle.batch.proofs.Done.{refused_15, refused_16, asks_screens, done_cleared, done_untouched}
 use Rattle.batch.proofs.run_list.Goals as goal
 
@@ -23,7 +24,7 @@ run_screens-requires c =
 pub returns-then-run_screens : goal.returns-then-run_screens
 unfolding refused
 returns-then-run_screens c =
-    done_cleared _ _ _ _ _ _ c.in_ok-rows.ensures (sym c.screens_inside.ensures ∙ c.if-not-screens_inside.false) c.run_screens.ensures c.if-run_screens.true (c.fill.ensures.after (λ y e. e))
+    done_cleared _ _ _ _ _ _ c.in_ok-rows.ensures (sym c.screens_inside.ensures ∙ c.if-not-screens_inside.false) c.run_screens.ensures c.if-run_screens.true (c.clear.ensures ∙ cleared_all _)
 
 pub returns-else-run_screens : goal.returns-else-run_screens
 unfolding refused

@@ -1,5 +1,6 @@
-use mathlib.Core.Path.{sym}
+use mathlib.Core.Path.{sym, ◌∙◌}
 use native.Mathlib.Omega.{arith}
+use Rattle.run_answer.proofs.LentLaws.{cleared_all}
 use Rattle.run_solve.proofs.Lending.{sizes, asks_run}
 use Rattle.infer.proofs.EntryWords.{infers_passed, infers_refused}
 use Rattle.image.specs.Refusals.{refused}
@@ -31,4 +32,4 @@ run-answer-requires c = asks_run _ _ _ _ (sym c.in_default.ensures)
 pub returns : goal.returns
 unfolding refused
 returns c =
-    infers_passed _ (sym c.in_default.ensures) c.run-answer.ensures.len c.run-answer.ensures.runs (c.fill.ensures.after (λ y e. e))
+    infers_passed _ (sym c.in_default.ensures) c.run-answer.ensures.len c.run-answer.ensures.runs (c.clear.ensures ∙ cleared_all _)

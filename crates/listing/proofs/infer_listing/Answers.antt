@@ -1,5 +1,6 @@
-use mathlib.Core.Path.{sym}
+use mathlib.Core.Path.{sym, ◌∙◌}
 use native.Mathlib.Omega.{arith}
+use Rattle.run_answer.proofs.LentLaws.{cleared_all}
 use Rattle.run_solve.proofs.Lending.{sizes, asks_run}
 use Rattle.listing.proofs.Entries.{lists_passed, lists_refused}
 use Rattle.image.specs.Refusals.{refused}
@@ -32,4 +33,4 @@ run-answer-requires c =
 pub returns : goal.returns
 unfolding refused
 returns c =
-    lists_passed _ (sym c.in_default.ensures) c.run-answer.ensures.len c.run-answer.ensures.runs (c.fill.ensures.after (λ y e. e))
+    lists_passed _ (sym c.in_default.ensures) c.run-answer.ensures.len c.run-answer.ensures.runs (c.clear.ensures ∙ cleared_all _)
