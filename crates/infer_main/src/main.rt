@@ -1,23 +1,26 @@
 // Reads an image, its names and a budget from standard input, and prints what the run answers.
 #![tactic(auto)]
 
-ghost use Rattle.std.specs.Prelude.{◌≡◌, ◌/◌, ◌*◌, ◌<◌, ◌≤◌, length, vec_len, IfOk, IfSome};
+ghost use Rattle.std.specs.Prelude.{◌≤◌, ◌<◌, ◌≡◌, length, take, IfOk, IfSome};
+ghost use Rattle.std.specs.Io.KnownBytes.{Consumes, IsAtEnd};
 
 use image::{NONE, WORK_WORDS_EACH, type_kinds};
 use infer::Answer;
-use std::alloc::{AllocError, Global};
 use std::fmt::{self, Display};
 use std::io::{self, Read};
 
 // The table words that are lent.
 const TABLE_WORDS: usize = 4096;
 
-// The most image words, name bytes and steps, and one byte more than the longest input.
+// The most image words, name bytes and steps, the work words for these, and one byte more than the longest input. What is lent and
+// read stands in arrays of so many: the program takes no heap.
 const MOST_WORDS: usize = 1024;
 
 const MOST_BYTES: usize = 4096;
 
 const MOST_BUDGET: u32 = 1024;
+
+const MOST_WORK: usize = WORK_WORDS_EACH * (MOST_WORDS + MOST_BUDGET as usize);
 
 const MOST_INPUT: usize = 12 + 4 * MOST_WORDS + MOST_BYTES + 1;
 
@@ -56,15 +59,14 @@ fn request_of(input: &[u8]) -> Option<Request<'_>> {
     })
 }
 
-// The little-endian words of bytes.
-fn words_of(alloc: Global, bytes: &[u8]) -> Result<Vec<u32>, AllocError>
-    ensures { IfOk result (λ words. vec_len words ≡ length bytes.now / 4) }
-{
-    let (words, _) = bytes.as_chunks::<4>();
+// The little-endian words of bytes, and zeros after them.
+fn words_of(bytes: &[u8]) -> [u32; MOST_WORDS] {
+    let mut words = [0; MOST_WORDS];
+    let (chunks, _) = bytes.as_chunks::<4>();
+    for (word, chunk) in words.iter_mut().zip(chunks) {
+        *word = u32::from_le_bytes(*chunk);
+    }
     words
-        .iter()
-        .map(|word| u32::from_le_bytes(*word))
-        .collect(alloc)
 }
 
 // The shape of an object, a function or a constructor, or NONE.
@@ -181,26 +183,45 @@ fn print_answer(rt: &impl Print, answer: Answer, tables: &[u32]) -> io::Result<(
 }
 
 // Runs what is asked for, and prints the answer.
-fn run(rt: &impl Print, alloc: Global, request: Request<'_>) -> io::Result<()> {
-    let image = words_of(alloc, request.image)?;
-    let work_words = WORK_WORDS_EACH * (image.len() + request.budget as usize);
-    let mut work = vec![in alloc; 0; work_words]?;
-    let mut tables = vec![in alloc; 0; TABLE_WORDS]?;
+fn run(rt: &impl Print, request: Request<'_>) -> io::Result<()> {
+    let words = request.image.len() / 4;
+    let image = words_of(request.image);
+    let work_words = WORK_WORDS_EACH * (words + request.budget as usize);
+    let mut work = [0; MOST_WORK];
+    let mut tables = [0; TABLE_WORDS];
     let answer = infer::infer_types(
-        &image,
+        &image[..words],
         request.names,
         request.budget,
-        &mut work,
+        &mut work[..work_words],
         &mut tables,
     );
     print_answer(rt, answer, &tables)
 }
 
+// Reads until the buffer is full or the input ends, and gives how many bytes were read. `remaining` is what a reader
+// has left, where that is known.
+fn read_full<R: Read>(input: &mut R, buffer: &mut [u8]) -> io::Result<usize>
+    ensures within { IfOk result (λ n. n ≤ length buffer.new) }
+    ensures read { IfOk result (λ n. Consumes (R.remaining input.old) (R.remaining input.new) (take n buffer.new)) }
+    ensures whole { IfOk result (λ n. n < length buffer.new → IsAtEnd (R.remaining input.new)) }
+{
+    let mut done = 0;
+    for _ in 0..u64::MAX {
+        let n = input.read(&mut buffer[done..])?;
+        if n == 0 {
+            break;
+        }
+        done += n;
+    }
+    Ok(done)
+}
+
 fn main(rt: HostRuntime) -> io::Result<()> {
-    let mut input = Vec::new(rt.alloc());
-    rt.stdin().take(MOST_INPUT as u64).read_to_end(&mut input)?;
-    match request_of(&input) {
-        Some(request) => run(&rt, rt.alloc(), request),
+    let mut input = [0; MOST_INPUT];
+    let got = read_full(&mut rt.stdin(), &mut input)?;
+    match request_of(&input[..got]) {
+        Some(request) => run(&rt, request),
         None => println!(rt; "input unfit"),
     }
 }
