@@ -26,7 +26,8 @@ fn check_bodies(bodies: &BodyImage) -> Result<(), Refusal>
     bodies_read(bodies)
 }
 
-// From the header on.
+// From the header on. It is compiled apart, so that only who gets here pays for its frame.
+#[inline(never)]
 fn check_tables(words: &[u32], names: &[u8]) -> Result<(), Refusal>
     requires { SizedInputs words.now names.now }
     ensures { refused result ≡ check_tables words.now names.now }

@@ -10,7 +10,7 @@ const OF_THREAD: usize = 1 << 18;
 
 // Frames of the compiled library, as `objdump -d libinfer_types.a` shows them; another compiler may make others.
 
-/// The check doesn't recurse: with `shapes_numbered`, `check` and all between 819,552, rounded up.
+/// The check doesn't recurse: with `shapes_numbered`, `check_tables` and all between 819,600, rounded up.
 const CHECK: usize = 13 << 16;
 /// A level of `generate_function`, which takes 112, or of `apply_function`, which takes 128. The first took 432 while
 /// the walk went by value.
@@ -21,7 +21,7 @@ const FUNCTION: usize = 480;
 const STEP: usize = 224 / 2;
 /// The levels of that one type, at most: its 4,096 words, two a level, and a variable.
 const TYPE: usize = 2_049 * STEP;
-/// Each function beside these levels once: in `infer_batch` 1,680, in `infer_types` 1,584, in `infer_listing` 1,552,
+/// Each function beside these levels once: in `infer_batch` 1,648, in `infer_types` 1,552, in `infer_listing` 1,536,
 /// rounded up: with the type 57 pages.
 const RUN: usize = (57 << 12) - TYPE;
 
