@@ -1,15 +1,30 @@
 -- The rows of a list are its screens. Assumes nothing.
-use Prim.Native.Nat.{ℕ, zero, suc, ◌+◌, ◌*◌, ◌/◌, ◌<◌}
+use Prim.Native.Nat.{ℕ, zero, suc, ◌+◌, ◌*◌, ◌-◌, ◌/◌, ◌≤◌, ◌<◌}
 use native.Mathlib.Omega.{arith}
 use native.Mathlib.Nat.{add-zero}
 use mathlib.Core.Path.{◌≡◌, refl, ap, ap₂, ◌∙◌}
-use mathlib.Core.List.{List, ◌∷◌}
+use mathlib.Core.List.{List, [], ◌∷◌}
 use lib.ListN.{length, get_or, take, drop}
 use lib.Seq.{drop-drop}
 use Rattle.std.specs.Simd.{first_chunks}
 use Rattle.std.proofs.lemmas.List.{get_or-take, get_or-drop}
 use Rattle.batch.specs.Batch.{screen_at, screens_from, screens_of}
 use Rattle.batch.specs.Steps.{screen_of, screens}
+
+module _ (list : List ℕ) where
+  -- the next screen, and those after it
+  pub screens_next : {k n : ℕ} → k < n → screens_from list k (n - k) ≡ screen_at list k ∷ screens_from list (k + 1) (n - (k + 1))
+  unfolding screens_from
+  screens_next {k} {n} h =
+      let e : n - k ≡ suc (n - (k + 1)) = omega arith in
+      ap (screens_from list k) e
+
+  -- no screen is left
+  pub screens_end : {k n : ℕ} → n ≤ k → screens_from list k (n - k) ≡ []
+  unfolding screens_from
+  screens_end {k} {n} h =
+      let e : n - k ≡ 0 = omega arith in
+      ap (screens_from list k) e
 
 -- as many screens as rows
 pub screens_length : (list : List ℕ) (k n : ℕ) → length (screens_from list k n) ≡ n

@@ -6,7 +6,7 @@ use mathlib.Core.Path.{◌≡◌, refl}
 use mathlib.Core.Bool.{Bool, true, false}
 use mathlib.Core.Option.{none}
 use mathlib.Core.List.{List, [], ◌∷◌}
-use lib.ListN.{length, get_elem?}
+use lib.ListN.{length, length-take, length-drop, get_elem?}
 use lib.Seq.{drop-cons}
 use borrow.Author.Tests.{lt-ltb, le-ltb}
 use Rattle.image.specs.Image.{word}
@@ -21,11 +21,30 @@ words_1 img at end h l =
     let p : at < length img = omega arith in
     rw (q, add-one, drop-cons img at 0)
 
+pub words_2 : (img : List ℕ) (at end : ℕ) → at + 2 ≤ end → end ≤ length img → between img at end ≡ word img at ∷ word img (at + 1) ∷ between img (at + 2) end
+words_2 img at end h l =
+    let q : at + 1 + 1 ≡ at + 2 = omega arith in
+    rw (words_1 img at end (omega arith) l, words_1 img (at + 1) end (omega arith) l, q)
+
+pub words_3 : (img : List ℕ) (at end : ℕ) → at + 3 ≤ end → end ≤ length img → between img at end ≡ word img at ∷ word img (at + 1) ∷ word img (at + 2) ∷ between img (at + 3) end
+words_3 img at end h l =
+    let q : at + 2 + 1 ≡ at + 3 = omega arith in
+    rw (words_2 img at end (omega arith) l, words_1 img (at + 2) end (omega arith) l, q)
+
+pub words_4 : (img : List ℕ) (at end : ℕ) → at + 4 ≤ end → end ≤ length img → between img at end ≡ word img at ∷ word img (at + 1) ∷ word img (at + 2) ∷ word img (at + 3) ∷ between img (at + 4) end
+words_4 img at end h l =
+    let q : at + 3 + 1 ≡ at + 4 = omega arith in
+    rw (words_3 img at end (omega arith) l, words_1 img (at + 3) end (omega arith) l, q)
+
 pub words_0 : (img : List ℕ) (at end : ℕ) → end ≤ at → between img at end ≡ []
 unfolding between
 words_0 img at end h =
     let q : end - at ≡ 0 = omega arith in
     rw q
+
+pub length_between : (img : List ℕ) (at end : ℕ) → end ≤ length img → length (between img at end) ≡ end - at
+unfolding between
+length_between img at end l = rw (length-take, length-drop) (omega arith)
 
 -- a word that passes a test, and one that doesn't
 pub passing_in : (test : ℕ → Bool) (w : ℕ) (ws : List ℕ) → test w ≡ true → passing test (w ∷ ws) ≡ got w ws

@@ -8,7 +8,10 @@ use mathlib.Core.List.{List}
 use lib.Dec.{leb}
 use borrow.Author.Tests.{le-leb, lt-leb}
 use borrow.Author.Count.{below_none, below_more}
+use Rattle.image.specs.declared.Table.TheVariants.{Functions}
+use Rattle.image.specs.Image.{count}
 use Rattle.image.specs.Check.{rows_pass, inside, apart, apart_from_earlier}
+use Rattle.image.specs.Laid.{BodiesInside}
 use Rattle.image_bodies.specs.declared.overlap.Span.{Span}
 use Rattle.image_bodies.specs.Span.{body_start, body_end, Spans}
 
@@ -34,6 +37,10 @@ module _ (img : List ℕ) (f g : ℕ) where
   pub apart_not : body_start img g < body_end img f → body_start img f < body_end img g → apart img f g ≡ false
   unfolding apart inside
   apart_not h l = rw (lt-leb _ _ h, lt-leb _ _ l)
+
+-- a body ends in the image, which is short
+pub end_small : {img : List ℕ} {f : ℕ} → BodiesInside img → f < count Functions img → body_end img f ≤ 65536
+end_small {img} {f} b h = omega (arith, b.body f h, b.laid.short)
 
 -- a body from the largest end on
 pub after_all : {img : List ℕ} {g : ℕ} {s : Span} → Spans img g s → s.high ≤ body_start img g → apart_from_earlier img g ≡ true

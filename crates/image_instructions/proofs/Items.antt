@@ -1,7 +1,9 @@
 -- Items: which words are left after one and after runs of them. Assumes nothing.
-use Rattle.std.proofs.Common.{◌≡◌, ℕ, ◌+◌, ◌-◌, ◌<◌, ◌≤◌, List, [], ◌∷◌, ◌++◌, length, true, false, refl, ◌∙◌, arith}
+use Rattle.std.proofs.Common.{◌≡◌, ℕ, zero, suc, ◌+◌, ◌-◌, ◌<◌, ◌≤◌, List, [], ◌∷◌, ◌++◌, length, true, false, refl, ◌∙◌, arith}
 use Rattle.std.specs.Prelude.{Some, None}
-use borrow.Author.Tests.{ne_eqb, le-leb, lt-leb}
+use mathlib.Core.Bool.{◌&&◌, ◌||◌}
+use lib.Dec.{eqb, leb, ltb}
+use borrow.Author.Tests.{ne_eqb, le-leb, lt-leb, le-ltb}
 use Rattle.image.specs.declared.Limits.{Limits}
 use Rattle.image.specs.Kind.{places_then, pattern}
 use Rattle.image.specs.Read.{followed, below, many}
@@ -12,6 +14,46 @@ use Rattle.image_instructions.specs.Forms.{tags_said}
 use Rattle.image_instructions.specs.Reads.{left}
 use Rattle.image_instructions.proofs.Readers.{left_nothing, left_followed, left_made}
 use Rattle.image.proofs.Reading.{lacking, passing_in, passing_out, below_in, below_out}
+
+-- a statement of tags: each from 0 to 6, and those above
+by_tag : (P : ℕ → Type 0) → P 0 → P 1 → P 2 → P 3 → P 4 → P 5 → P 6 → ((t : ℕ) → 7 ≤ t → P t) → (t : ℕ) → P t
+by_tag P a b c d e f g more zero = a
+by_tag P a b c d e f g more (suc zero) = b
+by_tag P a b c d e f g more (suc (suc zero)) = c
+by_tag P a b c d e f g more (suc (suc (suc zero))) = d
+by_tag P a b c d e f g more (suc (suc (suc (suc zero)))) = e
+by_tag P a b c d e f g more (suc (suc (suc (suc (suc zero))))) = f
+by_tag P a b c d e f g more (suc (suc (suc (suc (suc (suc zero)))))) = g
+by_tag P a b c d e f g more (suc (suc (suc (suc (suc (suc (suc t))))))) = more (suc (suc (suc (suc (suc (suc (suc t))))))) (omega arith)
+
+pub one_place : (t : ℕ) → one_of (0 ∷ []) t ≡ ltb t 1
+unfolding one_of
+one_place = by_tag _ refl refl refl refl refl refl refl (λ t h. rw (ne_eqb 0 t (λ e. omega arith), le-ltb t 1 (omega arith)))
+
+pub one_argument : (t : ℕ) → one_of (0 ∷ 1 ∷ []) t ≡ ltb t 2
+unfolding one_of
+one_argument = by_tag _ refl refl refl refl refl refl refl (λ t h. rw (ne_eqb 0 t (λ e. omega arith), ne_eqb 1 t (λ e. omega arith), le-ltb t 2 (omega arith)))
+
+pub one_element : (t : ℕ) → one_of (0 ∷ 1 ∷ 2 ∷ []) t ≡ ltb t 3
+unfolding one_of
+one_element = by_tag _ refl refl refl refl refl refl refl (λ t h. rw (ne_eqb 0 t (λ e. omega arith), ne_eqb 1 t (λ e. omega arith), ne_eqb 2 t (λ e. omega arith), le-ltb t 3 (omega arith)))
+
+pub one_property : (t : ℕ) → one_of (1 ∷ 3 ∷ 4 ∷ 5 ∷ []) t ≡ (eqb t 1 || (leb 3 t && ltb t 6))
+unfolding one_of
+one_property =
+    by_tag _ refl refl refl refl refl refl refl
+    (λ t h. rw (ne_eqb 1 t (λ e. omega arith), ne_eqb 3 t (λ e. omega arith), ne_eqb 4 t (λ e. omega arith), ne_eqb 5 t (λ e. omega arith), ne_eqb t 1 (λ e. omega arith), le-leb 3 t (omega arith), le-ltb t 6 (omega arith)))
+
+pub one_attribute : (t : ℕ) → one_of (0 ∷ 1 ∷ 6 ∷ []) t ≡ (eqb t 6 || ltb t 2)
+unfolding one_of
+one_attribute =
+    by_tag _ refl refl refl refl refl refl refl
+    (λ t h. rw (ne_eqb 0 t (λ e. omega arith), ne_eqb 1 t (λ e. omega arith), ne_eqb 6 t (λ e. omega arith), ne_eqb t 6 (λ e. omega arith), le-ltb t 2 (omega arith)))
+
+-- the key of any other tag
+pub key_zero : (l : Limits) (t : ℕ) → (t ≡ 3 → ⊥) → (t ≡ 6 → ⊥) → (t ≡ 4 → ⊥) → item_keys l t ≡ 1
+unfolding item_keys one_of
+key_zero l t a b c = rw (ne_eqb 3 t (λ e. omega arith), ne_eqb 6 t (λ e. omega arith), ne_eqb t 4 c, item_keys)
 
 -- a word that is no tag is none of these
 pub no_tag : (tags : Tags) (w : ℕ) → 6 < w → one_of (tags_said tags) w ≡ false

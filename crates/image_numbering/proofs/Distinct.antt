@@ -1,6 +1,7 @@
 -- Names that are equal or different, and rows with different names. Assumes nothing.
 use Prim.Native.Nat.{ℕ, zero, suc, ◌+◌, ◌≤◌, ◌<◌}
 use native.Mathlib.Omega.{arith}
+use native.Mathlib.Decide.{dec_lt}
 use mathlib.Core.Path.{◌≡◌, refl, sym, ap, ◌∙◌}
 use mathlib.Core.Bool.{Bool, true, false, true≢false}
 use mathlib.Core.List.{List}
@@ -58,3 +59,11 @@ module _ (img bytes : List ℕ) where
       go false q r =
           let d : k ≡ i → ⊥ = λ p. true≢false (sym (among_yes (name_of img bytes k) (suc k) n j (omega arith) (omega arith) (rw p e)) ∙ q) in
           rw (q, distinct) (r (omega arith))
+
+  -- rows with different names, two by two
+  pub distinct_apart : (k n i j : ℕ) → distinct img bytes k n ≡ true → k ≤ i → i < k + n → k ≤ j → j < k + n → (i ≡ j → ⊥) → same (name_of img bytes i) (name_of img bytes j) ≡ false
+  distinct_apart k n i j t a b c d m = same_apart _ _ (go (dec_lt i j))
+    where
+      go : Dec (i < j) → name_of img bytes i ≡ name_of img bytes j → ⊥
+      go (yes l) e = true≢false (sym t ∙ distinct_no k n i j a l d e)
+      go (no l) e = true≢false (sym t ∙ distinct_no k n j i c (omega arith) b (sym e))

@@ -56,3 +56,7 @@ doubled {bytes} {h = h} b e p =
           ∙ ap₂ ◌++◌ (b.apart i j (omega arith) (omega arith) (p.firsts i j (omega arith) (omega arith) q)) (b.apart (i + h) (j + h) (omega arith) (omega arith) (p.seconds i j (omega arith) (omega arith) q))
           ∙ sym (two_halves bytes j h);
     }
+
+-- there are no blocks of more bytes than there are
+pub blocks_none : (bytes numbers : List ℕ) (h : ℕ) → length bytes < h → Blocks bytes numbers h
+blocks_none bytes numbers h l = record { same = λ i j k. absurd (omega arith); apart = λ i j k. absurd (omega arith) }

@@ -39,6 +39,16 @@ module _ {img bytes : List ℕ} (n : NamesInside img bytes) where
   pub one_length : (p q : ℕ) → p < count Properties img → q < count Properties img → name_of img bytes p ≡ name_of img bytes q → length_of img p ≡ length_of img q
   one_length p q h k e = sym (name_length p h) ∙ ap length e ∙ name_length q k
 
+  -- no name is shorter than one byte and not empty
+  pub ends_start : (fronts backs : List ℕ) → ((p : ℕ) → at fronts p ≡ 0) → ((p : ℕ) → at backs p ≡ 0) → Ends img bytes fronts backs 1
+  unfolding name_at
+  ends_start fronts backs f b =
+      record {
+        front = λ p q h k l e. f p ∙ sym (f q);
+        back = λ p q h k l e. b p ∙ sym (b q);
+        apart = λ p q h k l e x y. let u : length_of img p ≡ 0 = omega arith in let v : length_of img q ≡ 0 = omega arith in rw (u, v);
+      }
+
   module _ {numbers fronts₀ backs₀ fronts backs : List ℕ} {h : ℕ} (o : Ends img bytes fronts₀ backs₀ h) (b : Blocks bytes numbers h) (w : Ended img numbers fronts₀ backs₀ fronts backs h (count Properties img)) where
     -- a name shorter than twice h is shorter than h or spans h bytes
     by_length : {A : Type 0} (p : ℕ) → length_of img p < h + h → (length_of img p < h → A) → (Spans img h p → A) → A

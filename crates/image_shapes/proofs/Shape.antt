@@ -4,10 +4,10 @@ use native.Mathlib.Omega.{arith}
 use native.Mathlib.Numerals.{add-one}
 use native.Mathlib.Decide.{ℕ_discrete}
 use mathlib.Core.Path.{◌≡◌, refl, sym, ap, ◌∙◌}
-use mathlib.Core.Bool.{Bool, true, false, not, ◌&&◌, ◌||◌}
+use mathlib.Core.Bool.{Bool, true, false, not, ◌&&◌, ◌||◌, false≢true}
 use mathlib.Core.List.{List}
-use lib.Dec.{leb}
-use borrow.Author.Tests.{le-leb, lt-leb, eq-eqb, ne_eqb}
+use lib.Dec.{eqb, leb}
+use borrow.Author.Tests.{le-leb, lt-leb, eq-eqb, ne_eqb, leb-true}
 use Rattle.std.specs.List.{list_any, list_all, range_with_len}
 use Rattle.std.proofs.lemmas.Bool.Decides.{nat_tests}
 use Rattle.names.specs.Names.{same}
@@ -18,6 +18,8 @@ use Rattle.image.specs.Check.{rows_pass, each, inside, among, distinct, shape_ro
 use Rattle.image_numbering.specs.Numbering.{at}
 use Rattle.image_numbering.specs.Blocks.{name_of, Reaches}
 use Rattle.image_shapes.specs.Shapes.{shape_fits, reach_sound}
+use Rattle.image.proofs.Passed.{rows_each}
+use Rattle.image_numbering.proofs.Distinct.{distinct_apart}
 
 module _ (img bytes : List ℕ) where
   -- whether one of n rows from k on has this name
@@ -47,7 +49,34 @@ module _ (img bytes : List ℕ) where
       go true h = refl
       go false h = h
 
--- the rows of a shape that fits
+-- present, first property, count: the tests in their order
+module _ (img : List ℕ) (s : ℕ) where
+  pub present_high : 1 < cell Shapes img s 0 → shape_fits img s ≡ false
+  unfolding shape_fits
+  present_high h = rw (lt-leb _ _ h)
+
+  pub rows_outside : cell Shapes img s 0 ≤ 1 → count Properties img < cell Shapes img s 1 + cell Shapes img s 2 → shape_fits img s ≡ false
+  unfolding shape_fits inside
+  rows_outside h o = rw (le-leb _ _ h, lt-leb _ _ o)
+
+  module _ (i : cell Shapes img s 1 + cell Shapes img s 2 ≤ count Properties img) where
+    pub is_present : cell Shapes img s 0 ≡ 1 → shape_fits img s ≡ true
+    unfolding shape_fits inside
+    is_present e = rw (e, le-leb _ _ i)
+
+    pub is_absent : cell Shapes img s 0 ≤ 1 → (cell Shapes img s 0 ≡ 1 → ⊥) → shape_fits img s ≡ eqb (cell Shapes img s 2) 0
+    unfolding shape_fits inside
+    is_absent h n = rw (le-leb _ _ h, le-leb _ _ i, ne_eqb _ _ n)
+
+-- the present word and the rows of a shape that fits
+pub fits_present : (img : List ℕ) (s : ℕ) → shape_fits img s ≡ true → cell Shapes img s 0 ≤ 1
+unfolding shape_fits inside
+fits_present img s t = grind (arith, nat_tests)
+
+pub fits_absent : (img : List ℕ) (s : ℕ) → shape_fits img s ≡ true → cell Shapes img s 0 ≡ 0 → cell Shapes img s 2 ≡ 0
+unfolding shape_fits inside
+fits_absent img s t z = grind (arith, nat_tests)
+
 fits_inside : (img : List ℕ) (s : ℕ) → shape_fits img s ≡ true → cell Shapes img s 1 + cell Shapes img s 2 ≤ count Properties img
 unfolding shape_fits inside
 fits_inside img s t = grind (arith, nat_tests)
@@ -99,6 +128,47 @@ reach_is_sound img bytes reach r s = go (shape_fits img s) refl
 
 pub each_same : (img : List ℕ) (f g : ℕ → Bool) → ((s : ℕ) → f s ≡ g s) → each Shapes img f ≡ each Shapes img g
 each_same img f g e = ap (each Shapes img) (λ i s. e s i)
+
+and_both : (a b : Bool) → a && b ≡ true → (a ≡ true) × (b ≡ true)
+and_both true b e = (refl, e)
+and_both false b e = absurd (false≢true e)
+
+-- what refusal 8 leaves
+pub record ShapeSound (img bytes : List ℕ) (s : ℕ) : Type 0 where
+  pub present : cell Shapes img s 0 ≤ 1
+  pub inside_table : cell Shapes img s 1 + cell Shapes img s 2 ≤ count Properties img
+  pub absent : cell Shapes img s 0 ≡ 0 → cell Shapes img s 2 ≡ 0
+  pub apart :
+      (i j : ℕ) →
+      cell Shapes img s 1 ≤ i →
+      i < cell Shapes img s 1 + cell Shapes img s 2 →
+      cell Shapes img s 1 ≤ j →
+      j < cell Shapes img s 1 + cell Shapes img s 2 →
+      (i ≡ j → ⊥) →
+      same (name_of img bytes i) (name_of img bytes j) ≡ false
+
+module _ (img bytes : List ℕ) (t : shapes_sound img bytes ≡ true) where
+  pub nine_shapes : 9 ≤ count Shapes img
+  unfolding shapes_sound
+  nine_shapes = leb-true _ _ (and_both (leb 9 (count Shapes img)) (each Shapes img (shape_sound img bytes)) t).0
+
+  pub shape_is_sound : (s : ℕ) → s < count Shapes img → shape_sound img bytes s ≡ true
+  unfolding shapes_sound each
+  shape_is_sound s h = rows_each (shape_sound img bytes) (count Shapes img) s (and_both (leb 9 (count Shapes img)) (each Shapes img (shape_sound img bytes)) t).1 h
+
+  pub sound_shape : (s : ℕ) → s < count Shapes img → ShapeSound img bytes s
+  sound_shape s h = go (shape_fits img s) refl
+    where
+      go : (b : Bool) → shape_fits img s ≡ b → ShapeSound img bytes s
+      go false e = absurd (false≢true (sym (sound_unfit img bytes s e) ∙ shape_is_sound s h))
+      go true e =
+          let d : distinct img bytes (cell Shapes img s 1) (cell Shapes img s 2) ≡ true = sym (sound_fit img bytes s e) ∙ shape_is_sound s h in
+          record {
+            present = fits_present img s e;
+            inside_table = fits_inside img s e;
+            absent = fits_absent img s e;
+            apart = λ i j a b c k n. distinct_apart img bytes _ _ i j d a b c k n;
+          }
 
 -- a loop over the rows of a table tests each of them
 pub each_rows : (t : Table) (img : List ℕ) (test : ℕ → Bool) {n : ℕ} → n ≡ count t img → each t img test ≡ rows_pass test 0 n

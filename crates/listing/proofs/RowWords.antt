@@ -1,6 +1,7 @@
 -- The rows of a listing are put out one after another. Assumes nothing.
 use Prim.Native.Nat.{ℕ, ◌+◌, ◌≤◌, ◌<◌}
 use native.Mathlib.Numerals.{add-one}
+use native.Mathlib.Omega.{arith}
 use mathlib.Core.Path.{◌≡◌, refl, sym, ap, subst, ◌∙◌}
 use mathlib.Core.Option.{none, some}
 use mathlib.Core.List.{List, [], ◌∷◌, ◌++◌, flat_map}
@@ -26,6 +27,10 @@ unfolding listing_row
 row_bound bs x t e = rw (e, listing_row)
 
 module _ {S : Type 0} {k : Sink S} {w : List ℕ} {lo x : ℕ} {s : Target S} (A : AsksListingRow k w lo x s) where
+  -- the binding is a word of the work words
+  pub row_inside : x < length w
+  row_inside = let l = A.low in omega (arith, A.good.nodes)
+
   -- every row starts with its slot
   pub room_slot : has_room k s 1
   unfolding listing_row

@@ -1,5 +1,5 @@
 -- The loop of a listing: what is pending and listed gives what is listed in the end. Assumes nothing.
-use Prim.Native.Nat.{ℕ, suc, ◌+◌, ◌*◌, ◌-◌, ◌≤◌, ◌<◌}
+use Prim.Native.Nat.{ℕ, suc, ◌+◌, ◌*◌, ◌-◌, ◌^◌, ◌≤◌, ◌<◌}
 use native.Mathlib.Nat.{suc-add, suc-mul}
 use native.Mathlib.Omega.{arith}
 use mathlib.Core.Path.{◌≡◌, refl, sym, ap, subst, ◌∙◌}
@@ -217,6 +217,9 @@ module _ {w₀ : List ℕ} {lay : Layout} {slot : ℕ} {w : List ℕ} {end n : �
 
   pub end_few : end ≤ lay.stack + steps_of lay
   end_few = omega (arith, stacked_length now.stack, now.room)
+
+  pub end_small : end < 2 ^ 32
+  end_small = let p = places in omega (arith, end_few)
 
   module _ (l : lay.stack < end) where
     abbrev turn : (A : ListsAsked w₀ lay slot) → Taken A w (end - 1) n (at w (end - 1))

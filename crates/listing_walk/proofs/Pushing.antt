@@ -10,7 +10,7 @@ use lib.ListN.{length, get_or, set, drop, length-set, length-append, drop_of_len
 use lib.Seq.{drop-cons, get_or-set_same, get_or-set_other}
 use Rattle.image.specs.Ty.{Ty, poly, Tys, nil, cons, variables, variables_all}
 use Rattle.unifier_nodes.specs.Work.{at, leaf_prim, leaf_poly, leaf_method, leaf_object, Rep, rep_var, rep_leaf, rep_func, rep_phi, Reps, reps_nil, reps_cons}
-use Rattle.unifier_nodes.specs.Walks.{ReadsNode}
+use Rattle.unifier_nodes.specs.Walks.{Stands, ReadsNode}
 use Rattle.unifier_nodes.specs.Operands.{Operands}
 use Rattle.unifier_nodes.proofs.Frames.{rep_same}
 use Rattle.unifier_nodes.proofs.OperandLists.{Alone, list_of, list_length, operands_of}
@@ -82,6 +82,10 @@ module _ {w : List ℕ} {lo n end : ℕ} (A : PushAsked w lo n end) where
   -- the words to be written lie past the node
   pub end_inside : end ≤ length w
   end_inside = omega (arith, A.room)
+
+  -- a node that is asked for can be read
+  pub asked_stands : Stands w lo n
+  asked_stands = record { top = end; t = A.t; fits = end_inside; rep = A.rep }
 
   -- no type inside
   shown_alone : {node : Node} {t : Ty} → ReadsNode w lo n node → Alone node → Rep w lo end n t → variables t ≡ alone node

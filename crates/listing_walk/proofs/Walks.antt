@@ -67,6 +67,9 @@ module _ {w : List ℕ} {lay : Layout} {n x end : ℕ} (a : ListAsked w lay n x 
   pub order_written : {o : ℕ} (m : ℕ) → o ≡ order_at lay → o + n < length (set w m n)
   order_written m e = omega (arith, (order_free P n few).inside, length-set w m n)
 
+  pub low_inside : x < length w
+  low_inside = omega (arith, low_over, P.log, P.entries, P.marks)
+
   -- the binding of x
   binding_word : at marked x ≡ at w x
   binding_word = marked_below x (omega (arith, low_over, low_log))

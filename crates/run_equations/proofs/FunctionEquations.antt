@@ -14,7 +14,7 @@ use Rattle.unifier_definition.proofs.Outcomes.{by_bool}
 use Rattle.unifier_nodes.specs.Work.{at, rep_var, Reps, reps_nil, reps_cons}
 use Rattle.run_definition.specs.Equations.{when, get_type}
 use Rattle.run_definition.specs.Generate.{returned, get_types, param_equations, params_equations, component_equations, phi_equation, return_equations}
-use Rattle.run_definition.specs.Position.{words_at, phi_at, returned_at, terminal_place, block_at, after_block, blocks_at, params_at, body_from}
+use Rattle.run_definition.specs.Position.{words_at, phi_at, returned_at, terminal_place, blocks_place, context_place, block_at, after_block, blocks_at, params_at, body_from}
 use Rattle.run_definition.specs.Fitting.{IdentifierAt, PhiFits, BlocksFit, no_block, block_then, PlaceFits}
 use Rattle.run_definition.proofs.PositionLaws.{words_length, word_entry, slot_is}
 use Rattle.run_layout.specs.Layout.{returned_by, ReturnsLaid}
@@ -200,6 +200,12 @@ returned_inside : {img : List ℕ} {f at n : ℕ} → BlocksFit img f at n → A
 unfolding blocks_at returned
 returned_inside (no_block e h) = rw e (λ k l. absurd (omega arith))
 returned_inside {img} {f} {at} (block_then {m = m} e b h) = rw e (block_inside img at (blocks_at img (after_block img at) m) b.returned (returned_inside h))
+
+-- a body's position
+module _ {img : List ℕ} {f at : ℕ} (h : FunctionAsked img f at) where
+  pub body_low : at + 4 < length img
+  unfolding blocks_place context_place
+  body_low = let p = h.fits.places in omega arith
 
 -- what is returned: nothing, one type, a Phi
 module _ (p : Program) (t : Ty) where

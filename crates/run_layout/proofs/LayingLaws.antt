@@ -1,13 +1,13 @@
 -- Words laid out in the work words: what each store adds, and what is kept. Assumes nothing.
 use Prim.Native.Nat.{ℕ, ◌+◌, ◌*◌, ◌≤◌, ◌<◌}
-use mathlib.Core.Path.{◌≡◌, sym, ap, subst, ◌∙◌}
+use mathlib.Core.Path.{◌≡◌, refl, sym, ap, subst, ◌∙◌}
 use mathlib.Core.Bool.{true, false}
 use mathlib.Core.Logic.{◌⊎◌, ⊎_elim}
 use mathlib.Core.List.{List}
 use native.Mathlib.Omega.{arith}
 use native.Mathlib.Decide.{ℕ_discrete}
 use lib.ListN.{length, set, length-set}
-use borrow.Author.Count.{below_more}
+use borrow.Author.Count.{below_none, below_more}
 use borrow.Author.Tests.{leb-true}
 use Rattle.image.specs.declared.Table.TheVariants.{Types, Lists}
 use Rattle.image.specs.Image.{count, cell, type_kinds, node, node_at}
@@ -19,6 +19,10 @@ use Rattle.unifier_nodes.proofs.Words.{at_same, at_other}
 use Rattle.run_layout.specs.Regions.{Regions}
 use Rattle.run_layout.specs.Laying.{Within, LaysWords, Lays, RowLaid, LaysType, LaysOwn}
 use Rattle.run_layout.specs.declared.Layout.{Layout}
+
+-- nothing changed
+pub within_refl : (w : List ℕ) (from to : ℕ) → Within w w from to
+within_refl w from to = record { len = refl; below = λ j l. refl; above = λ j l. refl }
 
 -- one change after another
 pub within_trans : {w v u : List ℕ} {from to p q : ℕ} → Within w v from to → Within v u p q → from ≤ p → q ≤ to → Within w u from to
@@ -43,6 +47,9 @@ within_wrote h = record { len = h.len; below = h.below; above = h.above }
 
 -- words of a sort: one more
 module _ {Sort : ℕ → ℕ → Type 0} where
+  pub words_none : {w : List ℕ} {from : ℕ} → LaysWords Sort w w from 0
+  words_none {w} {from} = record { kept = within_refl w from (from + 0); each = below_none _ }
+
   module _ {w v : List ℕ} {from i : ℕ} (h : LaysWords Sort w v from i) where
     pub words_store : (x : ℕ) → from + i < length v → Sort i x → LaysWords Sort w (set v (from + i) x) from (i + 1)
     words_store x l s =
@@ -53,8 +60,18 @@ module _ {Sort : ℕ → ℕ → Type 0} where
               (rw (at_same v (from + i) x l) s);
         }
 
+    pub words_skip : Sort i (at v (from + i)) → LaysWords Sort w v from (i + 1)
+    words_skip s = record { kept = within_more from (from + (i + 1)) h.kept (omega arith) (omega arith); each = below_more _ i h.each s }
+
+    -- all of them
+    pub words_all : {n : ℕ} → i ≡ n → LaysWords Sort w v from n
+    words_all e = subst (LaysWords Sort w v from) e h
+
 -- things: one more, that leaves the others
 module _ {Has : List ℕ → ℕ → Type 0} where
+  pub lays_none : {w : List ℕ} {from to : ℕ} → Lays Has w w from to 0
+  lays_none {w} {from} {to} = record { kept = within_refl w from to; each = below_none _ }
+
   pub lays_more : {w v u : List ℕ} {from to i p q : ℕ} → Lays Has w v from to i → Within v u p q → from ≤ p → q ≤ to
       → ((k : ℕ) → k < i → Has v k → Has u k) → Has u i → Lays Has w u from to (i + 1)
   lays_more {i = i} h g a b same new = record { kept = within_trans h.kept g a b; each = below_more _ i (λ k l. same k l (h.each k l)) new }
@@ -142,6 +159,11 @@ module _ (img : List ℕ) (t : ℕ) {kind a b : ℕ} (s : node_sound img t (node
   pub operands_inside : kind ≡ 7 → a + b ≤ count Lists img
   unfolding node type_kinds inside
   operands_inside e = leb-true _ _ (phi_below img t a b (is_node e)).0
+
+-- the parts of the work words in words of the same length
+pub regions_later : {img w w' : List ℕ} {lay : Layout} → length w' ≡ length w → Regions img w lay → Regions img w' lay
+regions_later e r =
+    record { laid = r.laid; slots = r.slots; nodes = r.nodes; lists = r.lists; places = r.places; returns = r.returns; own = r.own; top = r.top; entries = omega arith; small = omega arith }
 
 -- a type of the table has a node number that fits
 pub placed_in : {img w : List ℕ} {lay : Layout} {n : ℕ} → Regions img w lay → n < count Types img → TypePlaced img lay.lo n

@@ -9,7 +9,7 @@ use lib.ListN.{length, get_or, drop, drop_of_length-le}
 use lib.Seq.{drop-cons}
 use Rattle.image.specs.Ty.{Ty, poly, Tys, nil, cons, written, written_all}
 use Rattle.unifier_nodes.specs.Work.{at, Rep}
-use Rattle.unifier_nodes.specs.Walks.{ReadsNode}
+use Rattle.unifier_nodes.specs.Walks.{Stands, ReadsNode}
 use Rattle.unifier_nodes.specs.Operands.{Operands}
 use Rattle.unifier_nodes.proofs.OperandLists.{Alone, list_of, list_length, operands_of}
 use Rattle.unifier_nodes.specs.declared.node.Node.{Node}
@@ -65,6 +65,10 @@ module _ {w : List ℕ} {lo n : ℕ} where
       )
 
   module _ {S : Type 0} {k : Sink S} where
+    -- a node that is asked for can be read
+    pub asked_stands : {s : Target S} → Asks k w lo n s → Stands w lo n
+    asked_stands A = record { top = length w; t = A.t; fits = le_refl _; rep = A.rep }
+
     -- a node with nothing inside
     pub asked_alone : {node : Node} {s : Target S} → ReadsNode w lo n node → Alone node → Asks k w lo n s → has_room k s (length (front node))
     asked_alone {s = s} h a A = subst (λ (ws : List ℕ). has_room k s (length ws)) (shown_alone h a A.rep) A.room

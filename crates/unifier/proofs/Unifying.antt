@@ -16,7 +16,7 @@ use Rattle.unifier_definition.specs.Unify.{bind_checked, binding_of, bind_unboun
 use Rattle.unifier_nodes.specs.Work.{at, Leaf, leaf_prim, leaf_poly, leaf_method, leaf_object, Rep, rep_var, rep_leaf, rep_func, rep_phi}
 use Rattle.unifier_nodes.specs.Walks.{ReadsNode, TellsKind}
 use Rattle.unifier_nodes.specs.States.{charged, Charges, RepIn, Known, KnownBoth}
-use Rattle.unifier_nodes.specs.Promises.{Equals, LogIn, Binds, BindsSlot, UnifiesNodes}
+use Rattle.unifier_nodes.specs.Promises.{StandBoth, Equals, LogIn, Binds, BindsSlot, UnifiesNodes}
 use Rattle.unifier.specs.Choices.{unify_as_functions}
 use Rattle.unifier_nodes.specs.declared.node.Node.{Node}
 use Rattle.unifier_nodes.specs.declared.node.Node.TheVariants.{Var, Primitive, Poly, ObjectMethod, Object, Function, Phi}
@@ -236,8 +236,24 @@ module _ {v : Unifier} {a b : ℕ} (k : KnownBoth v a b) where
   pub known_less : KnownBoth (charged v) a b
   known_less = record { room = room_charged {u = v} refl k.room; σ = k.σ; t = k.t; v = k.v; good = k.good; left = k.left; right = k.right }
 
+  pub known_left : Known v a
+  known_left = record { room = k.room; σ = k.σ; t = k.t; good = k.good; rep = k.left }
+
   pub known_right : Known v b
   known_right = record { room = k.room; σ = k.σ; t = k.v; good = k.good; rep = k.right }
+
+  pub known_swap : KnownBoth v b a
+  known_swap = record { room = k.room; σ = k.σ; t = k.v; v = k.t; good = k.good; left = k.right; right = k.left }
+
+  pub stand_both : StandBoth v.words.now v.lo a b
+  stand_both = record { top = v.top; t = k.t; u = k.v; fits = room_fits k.room; left = k.left; right = k.right }
+
+-- the return types of two Functions
+pub known_returns : {u : Unifier} {a b i s m i' s' m' : ℕ} → ReadsNode u.words.now u.lo a (Function i s m) → ReadsNode u.words.now u.lo b (Function i' s' m') → KnownBoth u a b → KnownBoth u m m'
+known_returns {u} h h' k =
+    let x = h.shows u.top k.t (room_fits k.room) k.left in
+    let y = h'.shows u.top k.v (room_fits k.room) k.right in
+    record { room = k.room; σ = k.σ; t = x.1; v = y.1; good = k.good; left = x.5; right = y.5 }
 
 -- `bind_variable_to`, after its charge
 module _ {v : Unifier} {a n : ℕ} (k : KnownBoth v a n) where

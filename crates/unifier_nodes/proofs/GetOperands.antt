@@ -1,5 +1,5 @@
 -- Operands one after another, and the loop of `get` over them: what holds after i of them, and what it gives at the end. Assumes nothing.
-use Rattle.std.proofs.Common.{◌≡◌, refl, sym, ap, ◌∙◌, subst, ℕ, suc, ◌+◌, ◌*◌, ◌-◌, ◌≤◌, ◌<◌, arith, List, set, Ok, Err}
+use Rattle.std.proofs.Common.{◌≡◌, refl, sym, ap, ◌∙◌, subst, ℕ, suc, ◌+◌, ◌*◌, ◌-◌, ◌≤◌, ◌<◌, arith, List, length, set, Ok, Err}
 use Rattle.std.proofs.Math.ListN.{length-set}
 use Rattle.image.specs.declared.refusal.Refusal.{Refusal}
 use Rattle.image.specs.Ty.{Ty, Tys, nil, cons, count_of}
@@ -246,6 +246,15 @@ module _ {u x : Unifier} {a c i : ℕ} (W : Walking u x a c i) (lt : i < c) wher
               operands = subst (λ (y : ℕ). Reps u.words.now u.lo u.top p.0 u.top y N.vs) (omega arith) N.after;
             };
       }
+
+  pub walking_hand : {y : Unifier} {m : ℕ} → RoomIn u → Gives (in_hand x i) (at x.words.now (a + i)) y (Ok m) → u.stack + i < length y.words.now
+  walking_hand room h =
+      let few = W.fewer in
+      let few' = h.spare.0 in
+      let hd = room.hand in
+      let len₁ = W.keeps.frame.len in
+      let len₂ = h.keeps.frame.len in
+      omega arith
 
   pub walking_known : KnownAll u a c → Known (in_hand x i) (at x.words.now (a + i))
   walking_known k =

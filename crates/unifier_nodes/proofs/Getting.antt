@@ -9,7 +9,7 @@ use Rattle.unifier_definition.specs.Outcome.{Outcome, done, and_then}
 use Rattle.unifier_definition.specs.Resolve.{get_body, get}
 use Rattle.unifier_nodes.specs.Work.{at, Rep, Reps, reps_nil, reps_cons, rep_func, rep_phi, Bound, unbound, bound, Good, Room, Frame}
 use Rattle.unifier_nodes.specs.Walks.{Stands, ReadsNode, Wrote}
-use Rattle.unifier_nodes.specs.States.{charged, Charges, with_made, Makes, MakesPhi, RoomIn, RepIn, GoodIn, Known, KnownAll, Keeps}
+use Rattle.unifier_nodes.specs.States.{charged, Charges, with_made, Makes, MakesPhi, RoomFor, RoomIn, RepIn, GoodIn, Known, KnownAll, Keeps}
 use Rattle.unifier_nodes.specs.Promises.{Promise, Gives, GivesAll}
 use Rattle.unifier_nodes.specs.declared.node.Node.{Node}
 use Rattle.unifier_nodes.specs.declared.node.Node.TheVariants.{Var, Primitive, Poly, ObjectMethod, Object, Function, Phi}
@@ -306,3 +306,28 @@ module _ {v : Unifier} {n : ℕ} (k : Known v n) where
 
   pub known_phi : {a c : ℕ} → ReadsNode v.words.now v.lo n (Phi a c) → KnownAll v a c
   known_phi h = let q = h.shows v.top k.t (room_fits k.room) k.rep in record { room = k.room; σ = k.σ; ts = q.0; last = n; good = k.good; reps = q.3; many = q.2 }
+
+pub room_func : {u v x : Unifier} {m q : ℕ} → RoomIn u → Charges u v (Ok tt) → Gives v m x (Ok q) → RoomFor x 0
+room_func {u} {v} {x} {m} {q} room c a =
+    let a' : Gives (charged u) m x (Ok q) = subst (λ (y : Unifier). Gives y m x (Ok q)) c.1 a in
+    let K = keeps_charged {u = u} refl a'.keeps in
+    let (few, spare) = a'.spare in
+    let len = K.frame.len in
+    let st = K.stack in
+    let hp = room.heap in
+    let hd = room.hand in
+    let sm = room.small in
+    record { heap = omega arith; hand = omega arith; small = omega arith }
+
+pub room_phi : {u v x : Unifier} {k c m : ℕ} → RoomIn u → Charges u v (Ok tt) → GivesAll v k c x (Ok m) → RoomFor x m
+room_phi {u} {v} {x} {k} {c} {m} room ch a =
+    let a' : GivesAll (charged u) k c x (Ok m) = subst (λ (y : Unifier). GivesAll y k c x (Ok m)) ch.1 a in
+    let K = keeps_charged {u = u} refl a'.keeps in
+    let some = ch.0 in
+    let (few, spare) = a'.spare in
+    let len = K.frame.len in
+    let st = K.stack in
+    let hp = room.heap in
+    let hd = room.hand in
+    let sm = room.small in
+    record { heap = omega arith; hand = omega arith; small = omega arith }

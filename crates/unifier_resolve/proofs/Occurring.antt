@@ -12,12 +12,13 @@ use Rattle.unifier_definition.specs.Outcome.{Outcome, done, refused, out_of_step
 use Rattle.unifier_definition.specs.Resolve.{occurs_in_operands, occurs_inside, occurs_body, occurs_check}
 use Rattle.unifier_nodes.specs.Work.{at, Rep, Reps, Good}
 use Rattle.unifier_nodes.specs.Walks.{ReadsNode}
-use Rattle.unifier_nodes.specs.States.{Takes}
+use Rattle.unifier_nodes.specs.States.{Takes, KnownAll}
 use Rattle.unifier_nodes.specs.Promises.{Readable, ReadableAll, OccursIs, Checks, ChecksAll}
 use Rattle.unifier_nodes.specs.declared.node.Node.{Node}
 use Rattle.unifier_nodes.specs.declared.node.Node.TheVariants.{Var, Function, Phi}
+use Rattle.unifier_nodes.specs.declared.state.Unifier.{Unifier}
 use Rattle.unifier_definition.proofs.Fuel.{occurs_check_none, occurs_check_unfold}
-use Rattle.unifier_nodes.proofs.Getting.{Plain, PlainType, plain_prim, plain_poly, plain_method, plain_object, plain_type, is_free, bound_to, slot_bound}
+use Rattle.unifier_nodes.proofs.Getting.{Plain, PlainType, plain_prim, plain_poly, plain_method, plain_object, plain_type, is_free, bound_to, slot_bound, room_fits}
 use Rattle.unifier_nodes.proofs.GetOperands.{Next, next, none_left}
 
 -- `occurs_check` of the definition, for one variable
@@ -25,6 +26,9 @@ abbrev pub occurs_of : ℕ → Log → ℕ → Ty → Outcome Bool
 occurs_of v σ s t = occurs_check σ s v t
 
 -- what the calls ask for
+pub known_readable_all : {u : Unifier} {a c : ℕ} → KnownAll u a c → ReadableAll u.words.now u.lo a c
+known_readable_all {u} k = record { top = u.top; σ = k.σ; ts = k.ts; last = k.last; fits = room_fits k.room; good = k.good; reps = k.reps; many = k.many }
+
 module _ {w : List ℕ} {lo n : ℕ} (k : Readable w lo n) where
   module _ {s : TypeId} (h : ReadsNode w lo n (Var s)) where
     pub readable_bound : {m : ℕ} → at w s.0 ≡ m + 1 → Readable w lo m

@@ -11,7 +11,7 @@ use Rattle.unifier_definition.specs.Outcome.{Outcome, done, and_then}
 use Rattle.unifier_definition.specs.Resolve.{get, Resolved, resolve_operands, resolve_var, resolve_body, try_resolve_type}
 use Rattle.unifier_nodes.specs.Work.{rep_var, rep_func}
 use Rattle.unifier_nodes.specs.Walks.{ReadsNode}
-use Rattle.unifier_nodes.specs.States.{charged, Charges, with_made, with_binding, Makes, MakesPhi, RoomIn, RepIn, Known, Keeps}
+use Rattle.unifier_nodes.specs.States.{charged, Charges, with_made, with_binding, Makes, MakesPhi, RoomFor, RoomIn, RepIn, Known, Keeps}
 use Rattle.unifier_nodes.specs.Promises.{Promise, Gives, Equals, StandBoth, ResolvedIn, ResolvesBy, Rewrites, RewritesAll}
 use Rattle.unifier_nodes.specs.declared.node.Node.{Node}
 use Rattle.unifier_nodes.specs.declared.node.Node.TheVariants.{Var, Function, Phi}
@@ -305,3 +305,29 @@ pub known_got : {u y : Unifier} {n m : ℕ} → Known u n → Gives u n y (Ok m)
 known_got k a =
     let q = a.means k.σ k.t k.good k.rep in
     record { room = room_kept a.keeps k.room; σ = k.σ; t = q.0; good = good_kept a.keeps k.good; rep = q.2 }
+
+pub room_resolved : (v : ℕ) {u x y z : Unifier} {m q p : ℕ} → RoomIn u → Charges u x (Ok tt) → Gives x m y (Ok q) → Rewrites y v q z (Ok p) → RoomFor z 0
+room_resolved v {u} {x} {y} {z} {m} {q} {p} room c a b =
+    let a' : Gives (charged u) m y (Ok q) = subst (λ (s : Unifier). Gives s m y (Ok q)) c.1 a in
+    let K = keeps_both {u = u} a'.keeps b.keeps in
+    let (few, spare) = a'.spare in
+    let (few', spare') = b.spare in
+    let len = K.frame.len in
+    let st = K.stack in
+    let hp = room.heap in
+    let hd = room.hand in
+    let sm = room.small in
+    record { heap = omega arith; hand = omega arith; small = omega arith }
+
+pub room_rewritten : (v : ℕ) {u x y : Unifier} {k c m : ℕ} → RoomIn u → Charges u x (Ok tt) → RewritesAll x v k c y (Ok m) → RoomFor y m
+room_rewritten v {u} {x} {y} {k} {c} {m} room ch a =
+    let a' : RewritesAll (charged u) v k c y (Ok m) = subst (λ (s : Unifier). RewritesAll s v k c y (Ok m)) ch.1 a in
+    let K = keeps_charged {u = u} refl a'.keeps in
+    let some = ch.0 in
+    let (few, spare) = a'.spare in
+    let len = K.frame.len in
+    let st = K.stack in
+    let hp = room.heap in
+    let hd = room.hand in
+    let sm = room.small in
+    record { heap = omega arith; hand = omega arith; small = omega arith }
