@@ -35,10 +35,15 @@ const ENOUGH: Lent = Lent {
     tables: TABLE_WORDS,
 };
 
-const ROW_A: &str = "1 0 - 0 20 2 20 2 24 2 26 0 32 9 32 0 59 1 59 74 \
-    0 - 1 - 0 1 0 0 0 0 1 0 \
-    0 0 0 0 0 0 0 0 0 0 0 0 0 0 0 0 0 0 0 0 0 0 0 0 0 0 0 \
-    61 13 2 1 0 0 1 0 1 7 0 0 0 0 0";
+// The nine shapes, all absent.
+const ABSENT_SHAPES: &str = "0 0 0 0 0 0 0 0 0 0 0 0 0 0 0 0 0 0 0 0 0 0 0 0 0 0 0";
+
+const ROW_A: [&str; 4] = [
+    "1 0 - 0 20 2 20 2 24 2 26 0 32 9 32 0 59 1 59 74",
+    "0 - 1 - 0 1 0 0 0 0 1 0",
+    ABSENT_SHAPES,
+    "61 13 2 1 0 0 1 0 1 7 0 0 0 0 0",
+];
 
 // A word as it is printed.
 #[derive(Clone, Copy)]
@@ -183,15 +188,15 @@ fn row(
 
 // A Primitive; with a Return of it; a phi of its own load; a callee that is its own lvalue.
 fn rows_a_to_d(rt: &impl Print, work: &mut [u32]) -> io::Result<()> {
-    row(rt, "A", &[ROW_A], "", work)?;
+    row(rt, "A", &ROW_A, "", work)?;
     row(
         rt,
         "B",
         &[
-            "1 0 - 0 20 2 20 2 24 2 26 0 32 9 32 0 59 1 59 74 \
-        0 - 1 - 0 1 0 0 0 0 1 0 \
-        0 0 0 0 0 0 0 0 0 0 0 0 0 0 0 0 0 0 0 0 0 0 0 0 0 0 0 \
-        61 13 2 1 0 0 1 0 1 7 0 0 0 1 0",
+            "1 0 - 0 20 2 20 2 24 2 26 0 32 9 32 0 59 1 59 74",
+            "0 - 1 - 0 1 0 0 0 0 1 0",
+            ABSENT_SHAPES,
+            "61 13 2 1 0 0 1 0 1 7 0 0 0 1 0",
         ],
         "",
         work,
@@ -200,10 +205,10 @@ fn rows_a_to_d(rt: &impl Print, work: &mut [u32]) -> io::Result<()> {
         rt,
         "C",
         &[
-            "1 0 - 0 20 4 20 4 28 4 32 0 44 9 44 0 71 1 71 93 \
-        0 - 1 - 2 - 3 - 0 1 2 3 0 0 0 0 1 0 0 2 0 0 3 0 \
-        0 0 0 0 0 0 0 0 0 0 0 0 0 0 0 0 0 0 0 0 0 0 0 0 0 0 0 \
-        73 20 2 3 0 0 1 1 1 2 0 2 1 0 2 0 1 0 1 0 0 0",
+            "1 0 - 0 20 4 20 4 28 4 32 0 44 9 44 0 71 1 71 93",
+            "0 - 1 - 2 - 3 - 0 1 2 3 0 0 0 0 1 0 0 2 0 0 3 0",
+            ABSENT_SHAPES,
+            "73 20 2 3 0 0 1 1 1 2 0 2 1 0 2 0 1 0 1 0 0 0",
         ],
         "",
         work,
@@ -212,10 +217,10 @@ fn rows_a_to_d(rt: &impl Print, work: &mut [u32]) -> io::Result<()> {
         rt,
         "D",
         &[
-            "1 0 - 0 20 2 20 2 24 2 26 0 32 9 32 0 59 1 59 77 \
-        0 - 1 - 0 1 0 0 0 0 1 0 \
-        0 0 0 0 0 0 0 0 0 0 0 0 0 0 0 0 0 0 0 0 0 0 0 0 0 0 0 \
-        61 16 2 1 0 0 1 0 1 11 0 0 1 0 0 0 0 0",
+            "1 0 - 0 20 2 20 2 24 2 26 0 32 9 32 0 59 1 59 77",
+            "0 - 1 - 0 1 0 0 0 0 1 0",
+            ABSENT_SHAPES,
+            "61 16 2 1 0 0 1 0 1 11 0 0 1 0 0 0 0 0",
         ],
         "",
         work,
@@ -228,10 +233,10 @@ fn row_e(rt: &impl Print, work: &mut [u32]) -> io::Result<()> {
         rt,
         "E unbound",
         &[
-            "1 0 - 0 20 2 20 2 24 2 26 0 32 9 32 0 59 1 59 72 \
-        0 - 1 - 0 1 0 0 0 0 1 0 \
-        0 0 0 0 0 0 0 0 0 0 0 0 0 0 0 0 0 0 0 0 0 0 0 0 0 0 0 \
-        61 11 2 1 0 0 1 1 0 0 0 0 0",
+            "1 0 - 0 20 2 20 2 24 2 26 0 32 9 32 0 59 1 59 72",
+            "0 - 1 - 0 1 0 0 0 0 1 0",
+            ABSENT_SHAPES,
+            "61 11 2 1 0 0 1 1 0 0 0 0 0",
         ],
         "",
         work,
@@ -240,10 +245,10 @@ fn row_e(rt: &impl Print, work: &mut [u32]) -> io::Result<()> {
         rt,
         "E bound",
         &[
-            "1 0 - 0 20 2 20 2 24 2 26 0 32 9 32 0 59 1 59 80 \
-        0 - 1 - 0 1 0 0 0 0 1 0 \
-        0 0 0 0 0 0 0 0 0 0 0 0 0 0 0 0 0 0 0 0 0 0 0 0 0 0 0 \
-        61 19 2 1 0 0 2 0 1 7 0 0 0 0 0 1 0 0 0 0 0",
+            "1 0 - 0 20 2 20 2 24 2 26 0 32 9 32 0 59 1 59 80",
+            "0 - 1 - 0 1 0 0 0 0 1 0",
+            ABSENT_SHAPES,
+            "61 19 2 1 0 0 2 0 1 7 0 0 0 0 0 1 0 0 0 0 0",
         ],
         "",
         work,
@@ -256,10 +261,10 @@ fn row_f(rt: &impl Print, work: &mut [u32]) -> io::Result<()> {
         rt,
         "F",
         &[
-            "1 0 - 0 20 4 20 4 28 7 32 0 53 9 53 0 80 1 80 107 \
-        0 - 1 - 2 - 3 - 0 1 2 3 0 0 0 0 1 0 0 2 0 0 3 0 1 0 0 5 5 4 6 - 4 \
-        0 0 0 0 0 0 0 0 0 0 0 0 0 0 0 0 0 0 0 0 0 0 0 0 0 0 0 \
-        82 25 2 3 0 0 2 0 2 28 0 5 0 28 1 6 0 0 0 1 2 2 0 1 0 0 0",
+            "1 0 - 0 20 4 20 4 28 7 32 0 53 9 53 0 80 1 80 107",
+            "0 - 1 - 2 - 3 - 0 1 2 3 0 0 0 0 1 0 0 2 0 0 3 0 1 0 0 5 5 4 6 - 4",
+            ABSENT_SHAPES,
+            "82 25 2 3 0 0 2 0 2 28 0 5 0 28 1 6 0 0 0 1 2 2 0 1 0 0 0",
         ],
         "",
         work,
@@ -275,11 +280,11 @@ fn row_g(rt: &impl Print, work: &mut [u32]) -> io::Result<()> {
         ("G shape 4 first", "4 4 0", "5", "4"),
     ] {
         let texts = [
-            "1 0 - 0 20 4 20 4 28 6 32 0 50 9 50 0 77 1 77 104 0 - 1 - 2 - 3 - 0 1 \
-2 3 0 0 0 0 1 0 0 2 0 0 3 0 4 8 0",
+            "1 0 - 0 20 4 20 4 28 6 32 0 50 9 50 0 77 1 77 104",
+            "0 - 1 - 2 - 3 - 0 1 2 3 0 0 0 0 1 0 0 2 0 0 3 0 4 8 0",
             words,
-            "0 0 0 0 0 0 0 0 0 0 0 0 0 0 0 0 0 0 0 0 0 0 0 0 0 0 0 79 25 2 3 0 0 2 \
-0 2 28 0",
+            ABSENT_SHAPES,
+            "79 25 2 3 0 0 2 0 2 28 0",
             first,
             "0 28 1",
             second,
@@ -300,12 +305,14 @@ fn load(
     work: &mut [u32],
 ) -> io::Result<()> {
     let texts = [
-        "1 0 3 1 20 3 22 3 28 5 31 0 46 9 46 0 73 1 73 95 0",
+        "1 0 3 1 20 3 22 3 28 5 31 0 46 9 46 0 73 1 73 95",
+        "0",
         length,
         "0 - 1 - 2 - 0 1 2 0 0 0 0 1 0 0 2 0 3 0 0 4",
         shape,
-        "0 0 0 0 0 0 0 0 0 0 0 0 0 0 0 0 0 0 0 0 0 0 0 0 0 0 0 0 75 20 2 2 0 0 \
-1 0 2 28 0 4 0 23 1 0 1 0 0 0 0 0",
+        "0",
+        ABSENT_SHAPES,
+        "75 20 2 2 0 0 1 0 2 28 0 4 0 23 1 0 1 0 0 0 0 0",
     ];
     row(rt, title, &texts, name, work)
 }
@@ -319,12 +326,13 @@ fn current(
     work: &mut [u32],
 ) -> io::Result<()> {
     let texts = [
-        "1 1 - 2 20 4 24 4 32 4 36 0 48 9 48 0 75 1 75 100 0",
+        "1 1 - 2 20 4 24 4 32 4 36 0 48 9 48 0 75 1 75 100",
+        "0",
         length,
         length,
-        "7 0 0 1 - 2 - 3 - 0 1 2 3 0 0 0 0 1 0 0 2 0 0 3 0 0 0 0 0 0 0 0 0 0 0 \
-0 0 0 0 0 0 0 0 0 0 0 0 0 0 0 0 0 77 23 2 3 0 0 1 0 2 0 1 0 1 0 0 0 23 \
-2 1 1 0 1 0 0 0",
+        "7 0 0 1 - 2 - 3 - 0 1 2 3 0 0 0 0 1 0 0 2 0 0 3 0",
+        ABSENT_SHAPES,
+        "77 23 2 3 0 0 1 0 2 0 1 0 1 0 0 0 23 2 1 1 0 1 0 0 0",
     ];
     row(rt, title, &texts, names, work)
 }
@@ -358,10 +366,10 @@ fn rows_k_and_l(rt: &impl Print, work: &mut [u32]) -> io::Result<()> {
         rt,
         "K",
         &[
-            "1 0 - 0 20 2 20 2 24 3 26 0 35 9 35 0 62 1 62 77 \
-        0 - 1 - 0 1 0 0 0 0 1 0 2 0 0 \
-        0 0 0 0 0 0 0 0 0 0 0 0 0 0 0 0 0 0 0 0 0 0 0 0 0 0 0 \
-        64 13 2 1 0 0 1 0 1 28 0 2 0 0 0",
+            "1 0 - 0 20 2 20 2 24 3 26 0 35 9 35 0 62 1 62 77",
+            "0 - 1 - 0 1 0 0 0 0 1 0 2 0 0",
+            ABSENT_SHAPES,
+            "64 13 2 1 0 0 1 0 1 28 0 2 0 0 0",
         ],
         "",
         work,
@@ -370,10 +378,10 @@ fn rows_k_and_l(rt: &impl Print, work: &mut [u32]) -> io::Result<()> {
         rt,
         "L",
         &[
-            "1 2 - 1 20 5 22 5 32 5 37 0 52 9 52 0 79 1 79 111 \
-        0 4 0 0 1 - 2 - 3 - 4 - 0 1 2 3 4 0 0 0 0 1 0 0 2 0 0 3 0 0 4 0 \
-        0 0 0 0 0 0 0 0 0 0 0 0 0 0 0 0 0 0 0 0 0 0 0 0 0 0 0 \
-        81 30 2 4 0 0 1 0 3 0 2 0 1 0 0 0 0 2 0 1 0 1 0 11 3 0 1 0 2 0 0 0",
+            "1 2 - 1 20 5 22 5 32 5 37 0 52 9 52 0 79 1 79 111",
+            "0 4 0 0 1 - 2 - 3 - 4 - 0 1 2 3 4 0 0 0 0 1 0 0 2 0 0 3 0 0 4 0",
+            ABSENT_SHAPES,
+            "81 30 2 4 0 0 1 0 3 0 2 0 1 0 0 0 0 2 0 1 0 1 0 11 3 0 1 0 2 0 0 0",
         ],
         "setX",
         work,
@@ -389,7 +397,7 @@ fn budgets(rt: &impl Print, work: &mut [u32]) -> io::Result<()> {
         ("A, budget 65537", 65537),
     ];
     for (title, budget) in cases {
-        run(rt, title, &[ROW_A], "", Lent { budget, ..ENOUGH }, work)?;
+        run(rt, title, &ROW_A, "", Lent { budget, ..ENOUGH }, work)?;
     }
     Ok(())
 }
@@ -397,24 +405,17 @@ fn budgets(rt: &impl Print, work: &mut [u32]) -> io::Result<()> {
 // Row A with other numbers of work words and table words.
 fn lengths(rt: &impl Print, work: &mut [u32]) -> io::Result<()> {
     let one_fewer = Lent { fewer: 1, ..ENOUGH };
-    run(
-        rt,
-        "A, one work word too few",
-        &[ROW_A],
-        "",
-        one_fewer,
-        work,
-    )?;
+    run(rt, "A, one work word too few", &ROW_A, "", one_fewer, work)?;
     let five_tables = Lent {
         tables: 5,
         ..ENOUGH
     };
-    run(rt, "A, five table words", &[ROW_A], "", five_tables, work)?;
+    run(rt, "A, five table words", &ROW_A, "", five_tables, work)?;
     let four_tables = Lent {
         tables: 4,
         ..ENOUGH
     };
-    run(rt, "A, four table words", &[ROW_A], "", four_tables, work)
+    run(rt, "A, four table words", &ROW_A, "", four_tables, work)
 }
 
 fn work_words() -> [u32; WORK_WORDS]
